@@ -1,1 +1,6 @@
+pub mod Cases
 pub mod Num
+pub mod Bytes
+pub mod Within
+pub mod Patch
+pub mod Fields

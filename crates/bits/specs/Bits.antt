@@ -1,7 +1,8 @@
 -- The bits of a byte list, the number that a field of them makes, and the bytes after a field was written.
 -- Assumes nothing.
-use Prim.Native.Nat.{ℕ, zero, suc, _+_, _-_, _*_, _/_, _%_, _^_}
-use mathlib.Core.Bool.{Bool, cond, _&&_}
+use mathlib.Core.Path.{_≡_}
+use Prim.Native.Nat.{ℕ, zero, suc, _+_, _-_, _*_, _/_, _%_, _^_, _≤_, _<_}
+use mathlib.Core.Bool.{Bool, true, cond, _&&_}
 use mathlib.Core.List.{List, [], _∷_}
 use lib.ListN.{length, getD}
 use lib.Dec.{leb, ltb}
@@ -47,3 +48,29 @@ writable s at w v = within s at w && ltb v (2 ^ w)
 -- the bytes after a field was written: its bits get the value and all other bits stay, and a field that cannot be written changes nothing
 unfoldable pub writtenOf : List ℕ → ℕ → ℕ → ℕ → List ℕ
 writtenOf s at w v = cond (writable s at w v) (bytesOf (patched (bit s) at w v) (length s)) s
+
+-- ---- fields one after another: a field is its width and its value
+
+-- the bytes after each field was written where the one before it ended, the first at place `at`
+unfoldable pub writeAll : List ℕ → ℕ → List (ℕ × ℕ) → List ℕ
+writeAll s at [] = s
+writeAll s at (x ∷ xs) = writeAll (writtenOf s at (x .0) (x .1)) (at + x .0) xs
+
+-- each of them can be written there
+unfoldable pub allWritable : List ℕ → ℕ → List (ℕ × ℕ) → Bool
+allWritable s at [] = true
+allWritable s at (x ∷ xs) = writable s at (x .0) (x .1) && allWritable s (at + x .0) xs
+
+-- the values of fields of these widths, one after another from place `at` on
+unfoldable pub readAll : List ℕ → ℕ → List ℕ → List ℕ
+readAll s at [] = []
+readAll s at (w ∷ ws) = fieldOf s at w ∷ readAll s (at + w) ws
+
+-- ---- for a private function
+
+-- t is s with the first n of the eight bytes of a 64-bit word from byte i on
+pub record Scattered (s : List ℕ) (i n word : ℕ) (t : List ℕ) : Type 0 where
+  pub long : length t ≡ length s
+  pub here : (k : ℕ) → k < n → getD t (i + k) 0 ≡ word / 2 ^ (56 - 8 * k) % 256
+  pub before : (m : ℕ) → m < i → getD t m 0 ≡ getD s m 0
+  pub after : (m : ℕ) → i + n ≤ m → getD t m 0 ≡ getD s m 0
