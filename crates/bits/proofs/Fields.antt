@@ -2,7 +2,7 @@
 -- fields written one after another reads back as that list.
 -- Assumes nothing.
 use mathlib.Core.Path.{_≡_, refl, sym, ap, ap₂, _∙_}
-use mathlib.Core.Bool.{Bool, true, false, cond, _&&_}
+use mathlib.Core.Bool.{Bool, true, false, _&&_, false≢true}
 use mathlib.Core.List.{List, [], _∷_, map}
 use mathlib.Core.Logic.{_⊎_, inl, inr, ⊎-elim}
 use Prim.Native.Nat.{ℕ, _+_, _*_, _^_, _≤_, _<_}
@@ -87,3 +87,43 @@ elsewhere s at w v k l apart =
             ∙ ⊎-elim (λ b. patched-before (bit s) at w v (k + i) (omega arith)) (λ a. patched-after (bit s) at w v (k + i) (omega arith)) apart)
         ∙ sym (field-in s k l m)
 
+
+-- ---- fields one after another
+
+pub and-left : (a b : Bool) → (a && b) ≡ true → a ≡ true
+and-left true b h = refl
+and-left false b h = h
+
+pub and-right : (a b : Bool) → (a && b) ≡ true → b ≡ true
+and-right true b h = h
+and-right false b h = absurd (false≢true h)
+
+pub all-length : (s t : List ℕ) (at : ℕ) (xs : List (ℕ × ℕ)) → length s ≡ length t → allWritable s at xs ≡ allWritable t at xs
+unfolding allWritable
+all-length s t at [] e = refl
+all-length s t at (x ∷ xs) e = ap₂ _&&_ (writable-length s t at (x .0) (x .1) e) (all-length s t (at + x .0) xs e)
+
+-- fields written further on leave a field as it is
+pub all-elsewhere : (s : List ℕ) (at : ℕ) (xs : List (ℕ × ℕ)) (k l : ℕ) → k + l ≤ at → fieldOf (writeAll s at xs) k l ≡ fieldOf s k l
+unfolding writeAll
+all-elsewhere s at [] k l h = refl
+all-elsewhere s at (x ∷ xs) k l h =
+    all-elsewhere (writtenOf s at (x .0) (x .1)) (at + x .0) xs k l (omega arith) ∙ elsewhere s at (x .0) (x .1) k l (inl h)
+
+pub length-all : (s : List ℕ) (at : ℕ) (xs : List (ℕ × ℕ)) → length (writeAll s at xs) ≡ length s
+unfolding writeAll
+length-all s at [] = refl
+length-all s at (x ∷ xs) = length-all (writtenOf s at (x .0) (x .1)) (at + x .0) xs ∙ length-written s at (x .0) (x .1)
+
+-- a list of fields written one after another reads back as that list
+pub read-back : (s : List ℕ) (at : ℕ) (xs : List (ℕ × ℕ)) → allWritable s at xs ≡ true
+    → readAll (writeAll s at xs) at (map (λ x. x .0) xs) ≡ map (λ x. x .1) xs
+unfolding allWritable writeAll readAll
+read-back s at [] h = refl
+read-back s at (x ∷ xs) h =
+    let here : writable s at (x .0) (x .1) ≡ true = and-left (writable s at (x .0) (x .1)) (allWritable s (at + x .0) xs) h in
+    let rest : allWritable s (at + x .0) xs ≡ true = and-right (writable s at (x .0) (x .1)) (allWritable s (at + x .0) xs) h in
+    let s′ : List ℕ = writtenOf s at (x .0) (x .1) in
+    ap₂ _∷_
+    (all-elsewhere s′ (at + x .0) xs at (x .0) (omega arith) ∙ write-read s at (x .0) (x .1) here)
+    (read-back s′ (at + x .0) xs (all-length s′ s (at + x .0) xs (length-written s at (x .0) (x .1)) ∙ rest))
