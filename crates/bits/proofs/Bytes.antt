@@ -51,8 +51,8 @@ pub byte-field : (s : List ℕ) (i : ℕ) → getD s i 0 < 256 → num (bit s) (
 byte-field s i h =
     num-digits (bit s) (8 * i) (getD s i 0) 8
     (λ j m.
-      let e : 7 - j ≡ 8 - (j + 1) = omega arith in
-      bit-at s i j m ∙ ap (λ (x : ℕ). getD s i 0 / 2 ^ x % 2) e)
+    let e : 7 - j ≡ 8 - (j + 1) = omega arith in
+    bit-at s i j m ∙ ap (λ (x : ℕ). getD s i 0 / 2 ^ x % 2) e)
     ∙ mod-eq-of-lt h
 
 -- eight bits more are one byte more
@@ -81,8 +81,8 @@ pub is-run : (g : ℕ → ℕ) (s : List ℕ) (n : ℕ) → length s ≡ n → (
 is-run g s n e h =
     ext-getD 0 s (run g 0 n) (e ∙ sym (length-run g 0 n))
     (λ k m.
-      let m′ : k < n = omega (arith, e) in
-      h k m′ ∙ ap g (sym (zero-add k)) ∙ sym (getD-run g 0 n k m′))
+    let m′ : k < n = omega (arith, e) in
+    h k m′ ∙ ap g (sym (zero-add k)) ∙ sym (getD-run g 0 n k m′))
 
 -- ---- words of bytes
 
@@ -95,11 +95,11 @@ num-four s i a b c d ea eb ec ed ha hb hc hd =
     sym
     (num-byte s i 3 (rw (← ed) hd)
     ∙ ap₂ (λ (x y : ℕ). x * 256 + y)
-      (num-byte s i 2 (rw (← ec) hc)
-      ∙ ap₂ (λ (x y : ℕ). x * 256 + y)
-        (num-byte s i 1 (rw (← eb) hb) ∙ ap₂ (λ (x y : ℕ). x * 256 + y) (byte-field s i (rw (← ea) ha) ∙ sym ea) (sym eb))
-        (sym ec))
-      (sym ed))
+    (num-byte s i 2 (rw (← ec) hc)
+    ∙ ap₂ (λ (x y : ℕ). x * 256 + y)
+    (num-byte s i 1 (rw (← eb) hb) ∙ ap₂ (λ (x y : ℕ). x * 256 + y) (byte-field s i (rw (← ea) ha) ∙ sym ea) (sym eb))
+    (sym ec))
+    (sym ed))
 
 -- fewer than eight bytes leave room for one more in 64 bits
 pub num-room : (s : List ℕ) (k n : ℕ) → n < 8 → num (bit s) k (8 * n) < 2 ^ 56

@@ -62,7 +62,7 @@ write-read s at w v h =
     let inside : within s at w ≡ true = writable-within s at w v h in
     field-in (writtenOf s at w v) at w (within-length (writtenOf s at w v) s at w (length-written s at w v) ∙ inside)
     ∙ num-ext (bit (writtenOf s at w v)) (patched (bit s) at w v) at at w
-      (λ i m. bit-written s at w v h (at + i) (omega (arith, within-end s at w inside)))
+    (λ i m. bit-written s at w v h (at + i) (omega (arith, within-end s at w inside)))
     ∙ num-here (bit s) at w v (writable-small s at w v h)
 
 -- reading elsewhere is unchanged
@@ -82,11 +82,10 @@ elsewhere s at w v k l apart =
     same h m =
         field-in (writtenOf s at w v) k l (within-too ∙ m)
         ∙ num-ext (bit (writtenOf s at w v)) (bit s) k k l
-          (λ i n.
-            bit-written s at w v h (k + i) (omega (arith, within-end s k l m))
-            ∙ ⊎-elim (λ b. patched-before (bit s) at w v (k + i) (omega arith)) (λ a. patched-after (bit s) at w v (k + i) (omega arith)) apart)
+        (λ i n.
+        bit-written s at w v h (k + i) (omega (arith, within-end s k l m))
+        ∙ ⊎-elim (λ b. patched-before (bit s) at w v (k + i) (omega arith)) (λ a. patched-after (bit s) at w v (k + i) (omega arith)) apart)
         ∙ sym (field-in s k l m)
-
 
 -- ---- fields one after another
 

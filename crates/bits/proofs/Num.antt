@@ -59,9 +59,9 @@ pub num-cut : (f : ℕ → ℕ) → Bits f → (k a b c : ℕ) → num f k (a + 
 num-cut f h k a b c =
     let low-part : ℕ = num f (k + a) (b + c) in
     let up : num f k (a + (b + c)) * 2 ^ a ≡ num f k a * 2 ^ (a + (b + c)) + low-part * 2 ^ a =
-        rw (num-split f k a (b + c), pow-add 2 a (b + c)) (omega arith) in
+    rw (num-split f k a (b + c), pow-add 2 a (b + c)) (omega arith) in
     let fits : low-part * 2 ^ a < 2 ^ (a + (b + c)) =
-        rw (pow-add 2 a (b + c)) (omega (arith, mul-lt-mul-of-pos-right (num-lt f h (k + a) (b + c)) (pow-pos a))) in
+    rw (pow-add 2 a (b + c)) (omega (arith, mul-lt-mul-of-pos-right (num-lt f h (k + a) (b + c)) (pow-pos a))) in
     ap (λ (x : ℕ). x % 2 ^ (a + (b + c)) / 2 ^ (a + c)) up
     ∙ ap (λ (x : ℕ). x / 2 ^ (a + c)) (low (num f k a) (a + (b + c)) fits)
     ∙ sym (shr-shr (low-part * 2 ^ a) a c)

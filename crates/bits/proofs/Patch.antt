@@ -34,9 +34,9 @@ module _ (f : ℕ → ℕ) (at w v : ℕ) where
   patched-bits h k =
       ⊎-elim
       (λ l. ⊎-elim
-        (λ m. rw (patched-after k m) (h k))
-        (λ m. rw (patched-here k l m) (mod-lt (v / 2 ^ (at + w - (k + 1))) (omega arith)))
-        (le-or-lt (at + w) k))
+      (λ m. rw (patched-after k m) (h k))
+      (λ m. rw (patched-here k l m) (mod-lt (v / 2 ^ (at + w - (k + 1))) (omega arith)))
+      (le-or-lt (at + w) k))
       (λ l. rw (patched-before k l) (h k))
       (le-or-lt at k)
 
@@ -45,8 +45,8 @@ module _ (f : ℕ → ℕ) (at w v : ℕ) where
   num-here h =
       num-digits (patched f at w v) at v w
       (λ i m.
-        let e : at + w - (at + i + 1) ≡ w - (i + 1) = omega arith in
-        patched-here (at + i) (omega arith) (omega arith) ∙ ap (λ (x : ℕ). v / 2 ^ x % 2) e)
+      let e : at + w - (at + i + 1) ≡ w - (i + 1) = omega arith in
+      patched-here (at + i) (omega arith) (omega arith) ∙ ap (λ (x : ℕ). v / 2 ^ x % 2) e)
       ∙ mod-eq-of-lt h
 
   -- a field that ends where it starts, or before
@@ -81,12 +81,13 @@ module _ (f : ℕ → ℕ) (at w : ℕ) (narrow : w ≤ 56) where
 pub patched-word : (f : ℕ → ℕ) (at w v : ℕ) → w ≤ 56 → v < 2 ^ w
     → num f (8 * (at / 8)) 64 - num f at w * 2 ^ (64 - at % 8 - w) + v * 2 ^ (64 - at % 8 - w) ≡ num (patched f at w v) (8 * (at / 8)) 64
 patched-word f at w v narrow small =
-    rw
-    (three f at w narrow,
-    three (patched f at w v) at w narrow,
-    num-before f at w v (8 * (at / 8)) (at % 8) (omega arith),
-    num-here f at w v small,
-    num-after f at w v (at + w) (64 - at % 8 - w) (omega arith))
+    rw (
+      three f at w narrow,
+      three (patched f at w v) at w narrow,
+      num-before f at w v (8 * (at / 8)) (at % 8) (omega arith),
+      num-here f at w v small,
+      num-after f at w v (at + w) (64 - at % 8 - w) (omega arith),
+    )
     (omega arith)
 
 -- bytes of which some were stored from a word of patched bits are the bytes of the patched bits

@@ -106,11 +106,7 @@ fn last(s: &[u8], i: usize) -> u64
 fn byte(s: &[u8], i: usize) -> u64
     ensures { λ r. ⌜ (r ≡ getD (now (s .entry)) i 0) × (r < 256) ⌝ }
 {
-    if i < s.len() {
-        wide(s[i])
-    } else {
-        0
-    }
+    if i < s.len() { wide(s[i]) } else { 0 }
 }
 
 fn wide(x: u8) -> u64

@@ -1,11 +1,20 @@
 -- Ticks of the 90 kHz clock as milliseconds, and the sum of two times of the 33-bit clock.
 -- Assumes nothing.
 use Prim.Native.Nat.{ℕ, _+_, _/_, _%_, _^_}
+use Rattle.units.specs.declared.clock.Ticks.{Ticks}
+use Rattle.units.specs.declared.clock.Millis.{Millis}
 
--- the whole milliseconds in t ticks, of which 90 make one
-abbrev pub millisOf : ℕ → ℕ
-millisOf t = t / 90
+-- so many ticks; so many milliseconds
+abbrev pub ticks : ℕ → Ticks
+ticks n = record { 0 = n }
+
+abbrev pub millis : ℕ → Millis
+millis n = record { 0 = n }
+
+-- the whole milliseconds in these ticks, of which 90 make one
+abbrev pub millisOf : Ticks → Millis
+millisOf t = millis (t .0 / 90)
 
 -- the clock has 33 bits: its sum starts again from 0 at 2 ^ 33
-abbrev pub clockSum : ℕ → ℕ → ℕ
-clockSum a b = (a + b) % 2 ^ 33
+abbrev pub clockSum : Ticks → Ticks → Ticks
+clockSum a b = ticks ((a .0 + b .0) % 2 ^ 33)

@@ -14,14 +14,14 @@ pub struct EventId(pub u32);
 impl Ticks {
     // The whole milliseconds in these ticks: the only crossing between the kinds.
     pub fn to_millis(self) -> Millis
-        ensures { λ r. ⌜ r .0 ≡ millisOf (self .0) ⌝ }
+        ensures { λ r. ⌜ r ≡ millisOf self ⌝ }
     {
         Millis(self.0 / 90)
     }
 
     // The time that lies `other` after this one on the 33-bit clock, which wraps on purpose.
     pub fn clock_sum(self, other: Ticks) -> Ticks
-        ensures { λ r. ⌜ r .0 ≡ clockSum (self .0) (other .0) ⌝ }
+        ensures { λ r. ⌜ r ≡ clockSum self other ⌝ }
     {
         let a = self.0 % 8589934592;
         let b = other.0 % 8589934592;

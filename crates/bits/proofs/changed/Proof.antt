@@ -26,7 +26,7 @@ narrow-at c =
 old-moved : (c : tie.After-read) →
     c .read .result * 2 ^ (64 - c .before .before .before .args .at % 8 - c .before .before .before .args .width) % 2 ^ 64
     ≡ num (bit (c .before .before .before .args .s .now)) (c .before .before .before .args .at) (c .before .before .before .args .width)
-      * 2 ^ (64 - c .before .before .before .args .at % 8 - c .before .before .before .args .width)
+    * 2 ^ (64 - c .before .before .before .args .at % 8 - c .before .before .before .args .width)
 old-moved c =
     let a = c .before .before .before .args in
     let f : ℕ → ℕ = bit (a .s .now) in
@@ -40,8 +40,8 @@ is-word : (c : tie.After-read) →
     - c .read .result * 2 ^ (64 - c .before .before .before .args .at % 8 - c .before .before .before .args .width) % 2 ^ 64
     + c .before .before .before .args .value * 2 ^ (64 - c .before .before .before .args .at % 8 - c .before .before .before .args .width) % 2 ^ 64
     ≡ num
-      (patched (bit (c .before .before .before .args .s .now)) (c .before .before .before .args .at) (c .before .before .before .args .width) (c .before .before .before .args .value))
-      (8 * (c .before .before .before .args .at / 8)) 64
+    (patched (bit (c .before .before .before .args .s .now)) (c .before .before .before .args .at) (c .before .before .before .args .width) (c .before .before .before .args .value))
+    (8 * (c .before .before .before .args .at / 8)) 64
 is-word c =
     let a = c .before .before .before .args in
     let small : a .value < 2 ^ a .width = writable-small (a .s .now) (a .at) (a .width) (a .value) (c .before .before .before .pre .1) in
@@ -56,7 +56,7 @@ sub-after-2 : tie.Need-sub-after-2
 sub-after-2 c = omega (arith, narrow (c .before .args .s .now) (c .before .args .at) (c .before .args .width) (c .before .args .value) (c .before .pre .1))
 
 gather-requires : tie.Need-gather-requires
-gather-requires c κs = 
+gather-requires c κs =
     let a = c .before .args in
     omega (arith, within-end (a .s .now) (a .at) (a .width) (writable-within (a .s .now) (a .at) (a .width) (a .value) (c .before .pre .1)))
 
@@ -67,7 +67,7 @@ shl-result : tie.Need-shl-result
 shl-result c = search needs
 
 sub-result : tie.Need-sub-result
-sub-result c = 
+sub-result c =
     let a = c .before .before .before .args in
     rw (old-moved c, c .before .gather .ensures) (held (bit (a .s .now)) (a .at) (a .width) (omega (arith, narrow-at c)))
 
@@ -75,7 +75,7 @@ shl-result-2 : tie.Need-shl-result-2
 shl-result-2 c = search needs
 
 add-result : tie.Need-add-result
-add-result c = 
+add-result c =
     let a = c .before .before .before .args in
     record { fits = rw (is-word c) (num-lt (patched (bit (a .s .now)) (a .at) (a .width) (a .value)) (patched-bits (bit (a .s .now)) (a .at) (a .width) (a .value) (bit-lt (a .s .now))) (8 * (a .at / 8)) 64) }
 

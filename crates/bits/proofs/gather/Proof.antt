@@ -31,7 +31,7 @@ last-requires : tie.Need-last-requires
 last-requires c κs = search needs
 
 returns : tie.Need-returns
-returns c = 
+returns c =
     let a = c .before .before .before .before .args in
     let next : 8 * (a .i + 4) ≡ 8 * a .i + 32 = omega arith in
     ap₂ (λ (x y : ℕ). x * 4294967296 + y) (c .before .half .ensures .0)

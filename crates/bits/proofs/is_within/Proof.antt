@@ -14,7 +14,7 @@ returns : tie.Need-returns
 returns c = sym (too-wide (c .before .args .s .now) (c .before .args .at) (c .before .args .width) (c .if1 .taken))
 
 returns-2 : tie.Need-returns-2
-returns-2 c = 
+returns-2 c =
     let a = c .before .before .args in
     sym (past-end (a .s .now) (a .at) (a .width) (c .before .if1 .left) (omega arith))
 
@@ -28,7 +28,7 @@ sub-result : tie.Need-sub-result
 sub-result c = search needs
 
 returns-3 : tie.Need-returns-3
-returns-3 c = 
+returns-3 c =
     let a = c .before .before .args in
     same-leb ((a .at % 8 + a .width + 7) / 8) (length (a .s .now) - a .at / 8) (a .at + a .width) (8 * length (a .s .now)) (λ h. omega arith) (λ h. omega arith)
     ∙ sym (narrow (a .s .now) (a .at) (a .width) (c .before .if1 .left))

@@ -19,7 +19,7 @@ loop-holds : tie.Need-loop-holds Inv-loop μ-loop
 loop-holds c = (omega arith, sym (num-zero _ _))
 
 mul-word : tie.Need-mul-word Inv-loop μ-loop
-mul-word c = 
+mul-word c =
     let a = c .before .before .before .args in
     omega (arith, num-room (a .s .now) (8 * a .i) (c .before .loop .k) (omega arith))
 
@@ -30,7 +30,7 @@ byte-requires : tie.Need-byte-requires Inv-loop μ-loop
 byte-requires c κs = tt
 
 add-word : tie.Need-add-word Inv-loop μ-loop
-add-word c = 
+add-word c =
     let a = c .before .before .before .before .args in
     omega (arith, num-room (a .s .now) (8 * a .i) (c .before .before .loop .k) (omega arith))
 
@@ -41,17 +41,18 @@ loop-less : tie.Need-loop-less Inv-loop μ-loop
 loop-less c = omega arith
 
 loop-again : tie.Need-loop-again Inv-loop μ-loop
-loop-again c = 
+loop-again c =
     let a = c .before .before .before .before .args in
     let l = c .before .before .loop in
-    let more : 8 * l .k + 8 ≡ 8 * (l .k + 1) = omega arith in
-    (omega arith,
-    ap₂ (λ (x y : ℕ). x * 256 + y) (l .inv .1) (c .byte .ensures .0)
-    ∙ sym (num-byte (a .s .now) (a .i) (l .k) (rw (← (c .byte .ensures .0)) (c .byte .ensures .1)))
-    ∙ ap (num (bit (a .s .now)) (8 * a .i)) more)
+    let more : 8 * l .k + 8 ≡ 8 * (l .k + 1) = omega arith in (
+      omega arith,
+      ap₂ (λ (x y : ℕ). x * 256 + y) (l .inv .1) (c .byte .ensures .0)
+          ∙ sym (num-byte (a .s .now) (a .i) (l .k) (rw (← (c .byte .ensures .0)) (c .byte .ensures .1)))
+          ∙ ap (num (bit (a .s .now)) (8 * a .i)) more,
+    )
 
 returns : tie.Need-returns Inv-loop μ-loop
-returns c = 
+returns c =
     let all : 8 * c .before .loop .k ≡ 64 = omega arith in
     c .before .loop .inv .1 ∙ ap (num (bit (c .before .before .before .args .s .now)) (8 * c .before .before .before .args .i)) all
 

@@ -20,7 +20,7 @@ narrow-at c =
     within-width (a .s .now) (a .at) (a .width) (writable-within (a .s .now) (a .at) (a .width) (a .value) (c .before .before .before .before .before .pre))
 
 returns : tie.Need-returns
-returns c = 
+returns c =
     let a = c .before .before .args in
     sym (written-none (a .s .now) (a .at) (a .width) (a .value) (are-bytes (c .before)) (c .if1 .taken))
 
@@ -34,7 +34,7 @@ add-scatter-2 : tie.Need-add-scatter-2
 add-scatter-2 c = omega (arith, narrow-at c)
 
 scatter-requires : tie.Need-scatter-requires
-scatter-requires c κs = 
+scatter-requires c κs =
     let a = c .before .before .before .before .before .args in
     omega (arith, narrow-at c, within-end (a .s .now) (a .at) (a .width) (writable-within (a .s .now) (a .at) (a .width) (a .value) (c .before .before .before .before .before .pre)))
 
@@ -47,7 +47,7 @@ returns-2 c =
     let entry = lent .before .before .before .before in
     let a = entry .before .args in
     let stored : Scattered (a .s .now) (a .at / 8) ((a .at % 8 + a .width + 7) / 8) (lent .before .changed .result) (c .before .before .scatter .last .0) =
-        c .before .before .scatter .ensures in
+    c .before .before .scatter .ensures in
     scattered (a .s .now) (a .at) (a .width) (a .value) (a .at / 8) ((a .at % 8 + a .width + 7) / 8) (c .before .before .scatter .last .0)
     (are-bytes entry)
     (rw (lent .before .changed .ensures) at stored)

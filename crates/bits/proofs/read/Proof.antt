@@ -17,7 +17,7 @@ inside : (c : tie.Then2) → within (c .before .before .before .before .args .s 
 inside c = sym (c .before .is-within .ensures) ∙ c .if2 .taken
 
 returns : tie.Need-returns
-returns c = 
+returns c =
     let a = c .before .before .args in
     sym (ap (fieldOf (a .s .now) (a .at)) (c .if1 .taken) ∙ field-none (a .s .now) (a .at))
 
@@ -25,7 +25,7 @@ is-within-requires : tie.Need-is-within-requires
 is-within-requires c κs = search needs
 
 gather-requires : tie.Need-gather-requires
-gather-requires c κs = 
+gather-requires c κs =
     let a = c .before .before .before .before .args in
     omega (arith, within-end (a .s .now) (a .at) (a .width) (inside c))
 
@@ -33,7 +33,7 @@ shl-result : tie.Need-shl-result
 shl-result c = search needs
 
 sub-result : tie.Need-sub-result
-sub-result c = 
+sub-result c =
     let a = c .before .before .before .before .before .args in
     omega (arith, within-width (a .s .now) (a .at) (a .width) (inside (c .before)))
 
@@ -41,7 +41,7 @@ shr-result : tie.Need-shr-result
 shr-result c = search needs
 
 returns-2 : tie.Need-returns-2
-returns-2 c = 
+returns-2 c =
     let a = c .before .before .before .before .before .args in
     let narrow : a .width ≤ 56 = omega (arith, within-width (a .s .now) (a .at) (a .width) (inside (c .before))) in
     ap (λ (x : ℕ). x * 2 ^ (a .at % 8) % 2 ^ 64 / 2 ^ (64 - a .width)) (c .gather .ensures)
@@ -49,7 +49,7 @@ returns-2 c =
     ∙ sym (field-in (a .s .now) (a .at) (a .width) (inside (c .before)))
 
 returns-3 : tie.Need-returns-3
-returns-3 c = 
+returns-3 c =
     let a = c .before .before .before .before .args in
     sym (field-out (a .s .now) (a .at) (a .width) (sym (c .before .is-within .ensures) ∙ c .if2 .left))
 

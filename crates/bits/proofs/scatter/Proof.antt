@@ -26,14 +26,14 @@ more : (s : List ℕ) (i word : ℕ) (t : List ℕ) (k : ℕ) → i + k < length
     → Scattered s i (k + 1) word (set t (i + k) (word / 2 ^ (56 - 8 * k) % 256))
 more s i word t k h known =
     let v : ℕ = word / 2 ^ (56 - 8 * k) % 256 in
-    record
-    { long = length-set t (i + k) v ∙ known .long
-    ; here =
-        below-more (λ (j : ℕ). getD (set t (i + k) v) (i + j) 0 ≡ word / 2 ^ (56 - 8 * j) % 256) k
-        (λ j m. getD-set-other t (i + k) (i + j) v 0 (omega arith) ∙ known .here j m)
-        (getD-set-same t (i + k) v 0 h)
-    ; before = λ m l. getD-set-other t (i + k) m v 0 (omega arith) ∙ known .before m l
-    ; after = λ m l. getD-set-other t (i + k) m v 0 (omega arith) ∙ known .after m (omega arith)
+    record {
+      long = length-set t (i + k) v ∙ known .long;
+      here =
+          below-more (λ (j : ℕ). getD (set t (i + k) v) (i + j) 0 ≡ word / 2 ^ (56 - 8 * j) % 256) k
+          (λ j m. getD-set-other t (i + k) (i + j) v 0 (omega arith) ∙ known .here j m)
+          (getD-set-same t (i + k) v 0 h);
+      before = λ m l. getD-set-other t (i + k) m v 0 (omega arith) ∙ known .before m l;
+      after = λ m l. getD-set-other t (i + k) m v 0 (omega arith) ∙ known .after m (omega arith);
     }
 
 loop-holds : tie.Need-loop-holds Inv-loop μ-loop
@@ -70,7 +70,7 @@ same-length : tie.Need-same-length Inv-loop μ-loop
 same-length c = c .before .loop .inv .1 .long
 
 returns : tie.Need-returns Inv-loop μ-loop
-returns c = 
+returns c =
     let a = c .before .before .args in
     let all : c .before .loop .k ≡ a .n = omega arith in
     subst (λ (n : ℕ). Scattered (a .s .now) (a .i) n (a .word) (c .before .loop .s)) all (c .before .loop .inv .1)

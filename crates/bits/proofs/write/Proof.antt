@@ -30,7 +30,7 @@ same-length : tie.Need-same-length
 same-length c = search needs
 
 returns : tie.Need-returns
-returns c = 
+returns c =
     let a = c .before .before .before .before .args in
     let no-way : writable (a .s .now) (a .at) (a .width) (a .value) ≡ false = not-within (a .s .now) (a .at) (a .width) (a .value) (sym (c .before .is-within .ensures) ∙ not-true (c .before .is-within .result) (c .if1 .taken)) in
     (sym no-way, sym (written-out (a .s .now) (a .at) (a .width) (a .value) no-way))
@@ -47,7 +47,7 @@ returns-2 : tie.Need-returns-2
 returns-2 c =
     let a = c .before .before .before .before .before .args in
     let no-way : writable (a .s .now) (a .at) (a .width) (a .value) ≡ false =
-        too-large (a .s .now) (a .at) (a .width) (a .value) (inside (c .before)) (large (a .value) (a .width) (c .if2 .taken)) in
+    too-large (a .s .now) (a .at) (a .width) (a .value) (inside (c .before)) (large (a .value) (a .width) (c .if2 .taken)) in
     (sym no-way, sym (written-out (a .s .now) (a .at) (a .width) (a .value) no-way))
 
 put-requires : tie.Need-put-requires

@@ -1,0 +1,3 @@
+pub mod One
+pub mod Times
+pub mod Numbers
