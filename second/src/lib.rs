@@ -1,0 +1,10 @@
+//! The independent second program: what the papers say, written plainly and by its own route.
+//! It never links the proved library; the two meet only in `tests/compare.rs`.
+#![forbid(unsafe_code)]
+
+pub mod bits;
+pub mod crc;
+pub mod hex;
+pub mod refusal;
+pub mod text;
+pub mod units;
