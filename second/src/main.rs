@@ -1,0 +1,102 @@
+//! The command for people: one question to the second program, its answer on standard output.
+//! Exit status 0 for an answer, 1 for a refusal, 2 for bad usage.
+#![forbid(unsafe_code)]
+
+use second::{bits, crc, hex, refusal, text, units};
+use std::process::ExitCode;
+
+const USAGE: &str = "\
+usage: second to-section TEXT [ROOM]           the bytes of a base64 text
+       second to-section-hex HEX [ROOM]        the same, the text given as hex bytes
+       second to-text HEX [ROOM]               the base64 text of a section
+       second crc HEX                          the CRC of the bytes
+       second millis TICKS                     ticks in milliseconds
+       second clock A B                        the sum of two clocks, wrapped at 2^33
+       second field HEX AT WIDTH               the number in a field of bits
+       second set-field HEX AT WIDTH VALUE     whether it is written, and the bytes then";
+
+/// Why there is no answer.
+enum Failure {
+    Refusal(u8),
+    Usage(String),
+}
+
+fn main() -> ExitCode {
+    let given: Vec<_> = std::env::args_os().skip(1).collect();
+    let words: Vec<&[u8]> = given.iter().map(|word| word.as_encoded_bytes()).collect();
+    match answer(&words) {
+        Ok(line) => {
+            println!("{line}");
+            ExitCode::SUCCESS
+        }
+        Err(Failure::Refusal(number)) => {
+            println!("{}", refusal::shown(number));
+            ExitCode::from(1)
+        }
+        Err(Failure::Usage(message)) => {
+            eprintln!("second: {message}\n{USAGE}");
+            ExitCode::from(2)
+        }
+    }
+}
+
+/// The line that answers a question.
+fn answer(words: &[&[u8]]) -> Result<String, Failure> {
+    match words {
+        [b"to-section", text, room @ ..] => to_section(text, room),
+        [b"to-section-hex", text, room @ ..] => to_section(&bytes(text)?, room),
+        [b"to-text", section, room @ ..] => to_text(&bytes(section)?, room),
+        [b"crc", data] => Ok(format!("{:#010x}", crc::crc32(&bytes(data)?))),
+        [b"millis", ticks] => Ok(units::ticks_to_millis(number(ticks)?).to_string()),
+        [b"clock", a, b] => Ok(units::clock_sum(number(a)?, number(b)?).to_string()),
+        [b"field", data, at, width] => {
+            Ok(bits::read_field(&bytes(data)?, size(at)?, size(width)?).to_string())
+        }
+        [b"set-field", data, at, width, value] => {
+            let mut data = bytes(data)?;
+            let written = bits::write_field(&mut data, size(at)?, size(width)?, number(value)?);
+            Ok(format!("{written} {}", hex::to_hex(&data)))
+        }
+        [] => Err(Failure::Usage("nothing is asked".to_string())),
+        _ => Err(Failure::Usage(
+            "this is not one of the questions".to_string(),
+        )),
+    }
+}
+
+fn to_section(text: &[u8], room: &[&[u8]]) -> Result<String, Failure> {
+    let section = text::text_to_section(text, room_or_plenty(room)?).map_err(Failure::Refusal)?;
+    Ok(hex::to_hex(&section))
+}
+
+fn to_text(section: &[u8], room: &[&[u8]]) -> Result<String, Failure> {
+    let text = text::section_to_text(section, room_or_plenty(room)?).map_err(Failure::Refusal)?;
+    Ok(String::from_utf8_lossy(&text).into_owned())
+}
+
+/// The room that was given, or as much as anything can need.
+fn room_or_plenty(words: &[&[u8]]) -> Result<usize, Failure> {
+    match words {
+        [] => Ok(usize::MAX),
+        [room] => size(room),
+        _ => Err(Failure::Usage("there is more than one ROOM".to_string())),
+    }
+}
+
+fn bytes(word: &[u8]) -> Result<Vec<u8>, Failure> {
+    let shown = String::from_utf8_lossy(word);
+    hex::from_hex(&shown).ok_or_else(|| Failure::Usage(format!("not hex bytes: {shown}")))
+}
+
+fn number(word: &[u8]) -> Result<u64, Failure> {
+    let shown = String::from_utf8_lossy(word);
+    shown
+        .parse()
+        .map_err(|_| Failure::Usage(format!("not a number from 0 to 2^64 - 1: {shown}")))
+}
+
+fn size(word: &[u8]) -> Result<usize, Failure> {
+    number(word)?
+        .try_into()
+        .map_err(|_| Failure::Usage("a number is too large for this machine".to_string()))
+}
