@@ -1,0 +1,9 @@
+//! The questions put to both programs, a file for each group.
+
+mod crc;
+mod fields;
+mod published;
+mod section_edges;
+mod text_edges;
+mod text_random;
+mod units;
