@@ -1,0 +1,58 @@
+// The functions that programs in other languages call: numbers and byte slices only. A slice passes as a pointer and
+// then a length. An answer that is a count or a refusal is one number: the count, or 2^63 plus the refusal's number.
+ghost use mathlib.Core.Path.{_≡_};
+ghost use Prim.Native.Nat.{_<_, _^_};
+ghost use Rattle.bits.specs.Bits.{fieldOf, writable, writtenOf};
+ghost use Rattle.units.specs.Clock.{ticks, millisOf, clockSum};
+ghost use Rattle.exports.specs.Wire.{wire};
+use units::Ticks;
+use units::Written;
+
+// The whole milliseconds in t ticks of the 90 kHz clock.
+#[no_mangle]
+pub extern "C" fn timpanimist_ticks_to_millis(t: u64) -> u64
+    ensures { λ r. ⌜ r ≡ millisOf (ticks t) .0 ⌝ }
+{
+    let millis = Ticks(t).to_millis();
+    millis.0
+}
+
+// The sum of two times of the 33-bit clock.
+#[no_mangle]
+pub extern "C" fn timpanimist_clock_sum(a: u64, b: u64) -> u64
+    ensures { λ r. ⌜ r ≡ clockSum (ticks a) (ticks b) .0 ⌝ }
+{
+    let sum = Ticks(a).clock_sum(Ticks(b));
+    sum.0
+}
+
+// The field of `width` bits at bit `at`; 0 where it is wider than 48 bits or runs past the end.
+#[no_mangle]
+pub extern "C" fn timpanimist_field_read(bytes: &[u8], at: usize, width: usize) -> u64
+    ensures { λ r. ⌜ r ≡ fieldOf (now (bytes .entry)) at width ⌝ }
+{
+    bits::read(bytes, at, width)
+}
+
+// Gives that field the value, and says whether it did.
+#[no_mangle]
+pub extern "C" fn timpanimist_field_write(
+    bytes: &mut [u8],
+    at: usize,
+    width: usize,
+    value: u64,
+) -> bool
+    ensures { λ r. ⌜ (r ≡ writable (now (bytes .entry)) at width value) × (now (bytes .exit) ≡ writtenOf (now (bytes .entry)) at width value) ⌝ }
+{
+    bits::write(bytes, at, width, value)
+}
+
+// An answer as one number.
+fn number(answer: Written) -> u64
+    ensures { λ r. ⌜ r ≡ wire answer ⌝ }
+{
+    match answer {
+        Written::Count(n) => n as u64,
+        Written::Refused(refusal) => 9223372036854775808 + refusal.number(),
+    }
+}
