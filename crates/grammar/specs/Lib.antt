@@ -1,3 +1,4 @@
 pub mod Syntax
 pub mod Meaning
 pub mod Tables
+pub mod Ended

@@ -15,18 +15,18 @@ abbrev pub Env : Type 0
 Env = List (String × ℕ)
 
 -- the value last read under this name, 0 where there is none
-unfoldable pub valueOf : Env → String → ℕ
+abbrev pub valueOf : Env → String → ℕ
 valueOf [] n = 0
 valueOf (x ∷ env) n = cond (eqt (x .0) n) (x .1) (valueOf env n)
 
 -- ---- a row
 
-unfoldable pub widthOf : Item → ℕ
+abbrev pub widthOf : Item → ℕ
 widthOf (field w n) = w
 widthOf (reserved w) = w
 
 -- how many bits these rows have
-unfoldable pub width : List Item → ℕ
+abbrev pub width : List Item → ℕ
 width [] = 0
 width (i ∷ rows) = widthOf i + width rows
 
@@ -36,21 +36,21 @@ values [] f k = []
 values (i ∷ rows) f k = (i, num f k (widthOf i)) ∷ values rows f (k + widthOf i)
 
 -- a named value goes into the environment, a reserved one does not
-unfoldable pub bindOne : Item → ℕ → Env → Env
+abbrev pub bindOne : Item → ℕ → Env → Env
 bindOne (field w n) v env = (n, v) ∷ env
 bindOne (reserved w) v env = env
 
-unfoldable pub bind : List Item → (ℕ → ℕ) → ℕ → Env → Env
+abbrev pub bind : List Item → (ℕ → ℕ) → ℕ → Env → Env
 bind [] f k env = env
 bind (i ∷ rows) f k env = bind rows f (k + widthOf i) (bindOne i (num f k (widthOf i)) env)
 
 -- ---- a test
 
-unfoldable pub isAmong : ℕ → List ℕ → Bool
+abbrev pub isAmong : ℕ → List ℕ → Bool
 isAmong v [] = false
 isAmong v (x ∷ xs) = eqb v x || isAmong v xs
 
-unfoldable pub holds : Test → Env → ℕ → ℕ → Bool
+abbrev pub holds : Test → Env → ℕ → ℕ → Bool
 holds (is n v) env end k = eqb (valueOf env n) v
 holds (among n vs) env end k = isAmong (valueOf env n) vs
 holds more env end k = ltb k end

@@ -27,11 +27,12 @@ break-duration = fields (field 1 "auto_return" ∷ reserved 6 ∷ field 33 "dura
 
 -- ---- commands
 
--- Table 9, the end of an event and of Table 10
+-- Tables 9 and 10, the end of an event
+unfoldable pub avail-numbers : Prog
+avail-numbers = fields (field 16 "unique_program_id" ∷ field 8 "avail_num" ∷ field 8 "avails_expected" ∷ []) done
+
 unfoldable pub avails : Prog
-avails =
-    branch (is "duration_flag" 1) break-duration done
-    (fields (field 16 "unique_program_id" ∷ field 8 "avail_num" ∷ field 8 "avails_expected" ∷ []) done)
+avails = branch (is "duration_flag" 1) break-duration done avail-numbers
 
 -- Table 9, when an event takes place
 unfoldable pub schedule-times : Prog

@@ -1,0 +1,22 @@
+-- Fields at byte places, as code reads them off whole bytes.
+-- Assumes nothing.
+use mathlib.Core.Path.{_≡_, ap, _∙_}
+use mathlib.Core.List.{List}
+use Prim.Native.Nat.{ℕ, _+_, _-_, _*_, _/_, _%_, _^_, _<_}
+use lib.ListN.{getD}
+use lib.Dec.{eqb}
+use Rattle.bits.specs.Bits.{bit, num}
+use Rattle.bits.proofs.Num.{num-one}
+use Rattle.bits.proofs.Bytes.{bit-at, byte-field}
+
+-- a flag is a bit of its byte
+pub flag : (s : List ℕ) (at j k : ℕ) → j < 8 → k ≡ 8 * at + j → num (bit s) k 1 ≡ getD s at 0 / 2 ^ (7 - j) % 2
+flag s at j k h e = num-one (bit s) k ∙ ap (bit s) e ∙ bit-at s at j h
+
+-- an 8-bit field at a byte's place is the byte
+pub octet : (s : List ℕ) (at k : ℕ) → getD s at 0 < 256 → k ≡ 8 * at → num (bit s) k 8 ≡ getD s at 0
+octet s at k h e = ap (λ (x : ℕ). num (bit s) x 8) e ∙ byte-field s at h
+
+-- so a test of a flag is a test of that bit
+pub flag-test : (s : List ℕ) (at j k v w : ℕ) → j < 8 → k ≡ 8 * at + j → getD s at 0 / 2 ^ (7 - j) % 2 ≡ v → eqb (num (bit s) k 1) w ≡ eqb v w
+flag-test s at j k v w h e q = ap (λ (x : ℕ). eqb x w) (flag s at j k h e ∙ q)
