@@ -4,7 +4,7 @@ ghost use Prim.Native.Nat.{ℕ, _*_, _≤_};
 ghost use lib.ListN.{length};
 ghost use Rattle.bits.specs.Bits.{bit};
 ghost use Rattle.grammar.specs.Meaning.{Env, valueOf, run};
-ghost use Rattle.grammar.specs.Tables.{splice-time, avails, avail-numbers, insert-component, insert-times, splice-insert};
+ghost use Rattle.grammar.specs.Tables.{splice-time, avails, avail-numbers, insert-component, insert-times, splice-insert, schedule-times, schedule-event, splice-schedule};
 ghost use Rattle.grammar.specs.Ended.{outcome};
 ghost use Rattle.grammar.proofs.Run.{Runs, times};
 use grammar::Ended;
@@ -62,4 +62,121 @@ fn insert_component(s: &[u8], at: usize, end: usize, splice_immediate_flag: u8) 
         return splice_time(s, at + 1, end);
     }
     Ended::At(at + 1)
+}
+
+// Table 10, the components.
+fn insert_components(s: &[u8], at: usize, end: usize, component_count: usize, splice_immediate_flag: u8) -> Ended
+    requires { ⌜ (at ≤ end) × (end ≤ length (now s)) ⌝ }
+    ensures { λ r. ⌜ ((env : Env) → valueOf env "splice_immediate_flag" ≡ «splice_immediate_flag» → times «component_count» (run insert-component env (bit (now (s .entry))) (8 * end)) (8 * at) ≡ outcome r) ⌝ }
+{
+    let mut next = at;
+    let mut left = component_count;
+    while 0 < left {
+        let Ended::At(after) = insert_component(s, next, end, splice_immediate_flag) else {
+            return Ended::Broken;
+        };
+        next = after;
+        left -= 1;
+    }
+    Ended::At(next)
+}
+
+// Table 10, when the splice takes place.
+fn insert_times(s: &[u8], at: usize, end: usize, program_splice_flag: u8, splice_immediate_flag: u8) -> Ended
+    requires { ⌜ (at ≤ end) × (end ≤ length (now s)) ⌝ }
+    ensures { λ r. ⌜ ((env : Env) → valueOf env "program_splice_flag" ≡ «program_splice_flag» → valueOf env "splice_immediate_flag" ≡ «splice_immediate_flag» → Runs insert-times env (bit (now (s .entry))) (8 * end) (8 * at) (outcome r)) ⌝ }
+{
+    if program_splice_flag == 1 {
+        if splice_immediate_flag == 0 {
+            return splice_time(s, at, end);
+        }
+        return Ended::At(at);
+    }
+    if end - at < 1 {
+        return Ended::Broken;
+    }
+    insert_components(s, at + 1, end, s[at] as usize, splice_immediate_flag)
+}
+
+// Table 10.
+fn splice_insert(s: &[u8], at: usize, end: usize) -> Ended
+    requires { ⌜ (at ≤ end) × (end ≤ length (now s)) ⌝ }
+    ensures { λ r. ⌜ ((env : Env) → Runs splice-insert env (bit (now (s .entry))) (8 * end) (8 * at) (outcome r)) ⌝ }
+{
+    if end - at < 5 {
+        return Ended::Broken;
+    }
+    if 128 <= s[at + 4] {
+        return Ended::At(at + 5);
+    }
+    if end - at < 6 {
+        return Ended::Broken;
+    }
+    let flags = s[at + 5];
+    let Ended::At(next) = insert_times(s, at + 6, end, flags / 64 % 2, flags / 16 % 2) else {
+        return Ended::Broken;
+    };
+    avails(s, next, end, flags / 32 % 2)
+}
+
+// Table 9, when an event takes place.
+fn schedule_times(s: &[u8], at: usize, end: usize, program_splice_flag: u8) -> Ended
+    requires { ⌜ (at ≤ end) × (end ≤ length (now s)) ⌝ }
+    ensures { λ r. ⌜ ((env : Env) → valueOf env "program_splice_flag" ≡ «program_splice_flag» → Runs schedule-times env (bit (now (s .entry))) (8 * end) (8 * at) (outcome r)) ⌝ }
+{
+    if program_splice_flag == 1 {
+        if end - at < 4 {
+            return Ended::Broken;
+        }
+        return Ended::At(at + 4);
+    }
+    if end - at < 1 {
+        return Ended::Broken;
+    }
+    let components = 5 * (s[at] as usize);
+    if end - at - 1 < components {
+        return Ended::Broken;
+    }
+    Ended::At(at + 1 + components)
+}
+
+// Table 9, an event.
+fn schedule_event(s: &[u8], at: usize, end: usize) -> Ended
+    requires { ⌜ (at ≤ end) × (end ≤ length (now s)) ⌝ }
+    ensures { λ r. ⌜ ((env : Env) → Runs schedule-event env (bit (now (s .entry))) (8 * end) (8 * at) (outcome r)) ⌝ }
+{
+    if end - at < 5 {
+        return Ended::Broken;
+    }
+    if 128 <= s[at + 4] {
+        return Ended::At(at + 5);
+    }
+    if end - at < 6 {
+        return Ended::Broken;
+    }
+    let flags = s[at + 5];
+    let Ended::At(next) = schedule_times(s, at + 6, end, flags / 64 % 2) else {
+        return Ended::Broken;
+    };
+    avails(s, next, end, flags / 32 % 2)
+}
+
+// Table 9.
+fn splice_schedule(s: &[u8], at: usize, end: usize) -> Ended
+    requires { ⌜ (at ≤ end) × (end ≤ length (now s)) ⌝ }
+    ensures { λ r. ⌜ ((env : Env) → Runs splice-schedule env (bit (now (s .entry))) (8 * end) (8 * at) (outcome r)) ⌝ }
+{
+    if end - at < 1 {
+        return Ended::Broken;
+    }
+    let mut next = at + 1;
+    let mut left = s[at] as usize;
+    while 0 < left {
+        let Ended::At(after) = schedule_event(s, next, end) else {
+            return Ended::Broken;
+        };
+        next = after;
+        left -= 1;
+    }
+    Ended::At(next)
 }

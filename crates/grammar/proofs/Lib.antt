@@ -1,2 +1,5 @@
 pub mod Run
 pub mod Places
+pub mod Traces
+pub mod Ends
+pub mod Within

@@ -57,6 +57,10 @@ stopped = record { runs = refl }
 pub at-place : {p : Prog} {env : Env} {f : ℕ → ℕ} {end k j : ℕ} {o : Outcome} → k ≡ j → Runs p env f end j o → Runs p env f end k o
 at-place {p} {env} {f} {end} e r = record { runs = ap (run p env f end) e ∙ r .runs }
 
+-- the same outcome, said in another way
+pub becomes : {p : Prog} {env : Env} {f : ℕ → ℕ} {end k : ℕ} {x o : Outcome} → Runs p env f end k x → x ≡ o → Runs p env f end k o
+becomes r e = record { runs = r .runs ∙ e }
+
 -- rows that are all there
 pub pass : {rows : List Item} {p : Prog} {env : Env} {f : ℕ → ℕ} {end k : ℕ} {o : Outcome} → k + width rows ≤ end
     → Runs p (bind rows f k env) f end (k + width rows) o → Runs (fields rows p) env f end k o
@@ -137,6 +141,21 @@ unfolding again endOf
 end-again zero g k = refl
 end-again (suc n) g k = end-then (g k) (again n g) ∙ on-same (endOf (g k)) (λ j. endOf (again n g j)) (times n (λ j. endOf (g j))) (end-again n g)
 
+pub times-none : (n : ℕ) (g : ℕ → Outcome) (k : ℕ) → n ≡ 0 → times n g k ≡ ends k
+times-none n g k h = ap (λ (m : ℕ). times m g k) h
+
+-- one time more
+times-more : (n : ℕ) (g : ℕ → Outcome) (k : ℕ) {x : Outcome} → 0 < n → g k ≡ x → times n g k ≡ on x (times (n - 1) g)
+times-more n g k h e =
+    let one-more : n ≡ suc (n - 1) = omega arith in
+    ap (λ (m : ℕ). times m g k) one-more ∙ ap (λ (o : Outcome). on o (times (n - 1) g)) e
+
+pub times-on : (n : ℕ) (g : ℕ → Outcome) (k : ℕ) {j : ℕ} → 0 < n → g k ≡ ends j → times n g k ≡ times (n - 1) g j
+times-on n g k h e = times-more n g k h e
+
+pub times-off : (n : ℕ) (g : ℕ → Outcome) (k : ℕ) {m : ℕ} → 0 < n → g k ≡ breach m → times n g k ≡ breach m
+times-off n g k h e = times-more n g k h e
+
 pub repeated : {n : String} {a p : Prog} {env : Env} {f : ℕ → ℕ} {end k : ℕ} {x o : Outcome}
     → times (valueOf env n) (run a env f end) k ≡ x → on x (run p env f end) ≡ o → Runs (repeat n a p) env f end k o
 unfolding run read
@@ -175,6 +194,17 @@ few rows env f end (suc n) k l h =
     let step : Runs (fields rows done) env f end k (breach 0) = short missing in
     ap (λ (o : Outcome). on o (times n (run (fields rows done) env f end))) (step .runs))
     (le-or-lt (k + width rows) end)
+
+-- the same as a step of a run: m times these rows, all there or not
+pub all-there : {n : String} {rows : List Item} {p : Prog} {env : Env} {f : ℕ → ℕ} {end k : ℕ} {o : Outcome} (m : ℕ) → valueOf env n ≡ m
+    → k + m * width rows ≤ end → Runs p env f end (k + m * width rows) o → Runs (repeat n (fields rows done) p) env f end k o
+all-there {n} {rows} {p} {env} {f} {end} {k} m e h r =
+    repeated (ap (λ (i : ℕ). times i (run (fields rows done) env f end) k) e ∙ many rows env f end m k h) (r .runs)
+
+pub not-all-there : {n : String} {rows : List Item} {p : Prog} {env : Env} {f : ℕ → ℕ} {end k : ℕ} (m : ℕ) → valueOf env n ≡ m
+    → k ≤ end → end < k + m * width rows → Runs (repeat n (fields rows done) p) env f end k (breach 0)
+not-all-there {n} {rows} {p} {env} {f} {end} {k} m e l h =
+    repeated (ap (λ (i : ℕ). times i (run (fields rows done) env f end) k) e ∙ few rows env f end m k l h) refl
 
 -- ---- a part of a given length
 

@@ -2,3 +2,4 @@ pub mod Syntax
 pub mod Meaning
 pub mod Tables
 pub mod Ended
+pub mod Traces

@@ -1,0 +1,47 @@
+-- What is said of a trace, the rows that were read with their values: how many bits it covers, which bits it stands for, and when
+-- two of them differ in reserved values alone.
+-- Assumes nothing.
+use mathlib.Core.Path.{_≡_}
+use mathlib.Core.List.{List, [], _∷_}
+use Prim.Native.Nat.{ℕ, _+_}
+use Rattle.bits.specs.Bits.{num}
+use Rattle.grammar.specs.Syntax.{Item, field, reserved}
+use Rattle.grammar.specs.Meaning.{widthOf, width}
+
+-- its rows
+unfoldable pub rowsOf : List (Item × ℕ) → List Item
+rowsOf [] = []
+rowsOf (x ∷ t) = x .0 ∷ rowsOf t
+
+-- how many bits it covers
+abbrev pub size : List (Item × ℕ) → ℕ
+size t = width (rowsOf t)
+
+-- its values, in order: the sheet
+unfoldable pub numbers : List (Item × ℕ) → List ℕ
+numbers [] = []
+numbers (x ∷ t) = x .1 ∷ numbers t
+
+-- each row's value is the number that the bits of f make at its place, the first at place k
+abbrev pub spans : (ℕ → ℕ) → ℕ → List (Item × ℕ) → Type 0
+spans f k [] = Unit {0}
+spans f k (x ∷ t) = (num f k (widthOf (x .0)) ≡ x .1) × spans f (k + widthOf (x .0)) t
+
+-- ---- reserved values
+
+-- a named row has the same value twice, a reserved one may have any two
+abbrev pub keeps : Item → ℕ → ℕ → Type 0
+keeps (field w n) v v′ = v ≡ v′
+keeps (reserved w) v v′ = Unit {0}
+
+-- as `spans`, for the named rows alone
+abbrev pub namedSpans : (ℕ → ℕ) → ℕ → List (Item × ℕ) → Type 0
+namedSpans f k [] = Unit {0}
+namedSpans f k (x ∷ t) = keeps (x .0) (num f k (widthOf (x .0))) (x .1) × namedSpans f (k + widthOf (x .0)) t
+
+-- the same rows in the same order, with the same values at the named ones
+abbrev pub alike : List (Item × ℕ) → List (Item × ℕ) → Type 0
+alike [] [] = Unit {0}
+alike [] (y ∷ u) = ⊥
+alike (x ∷ t) [] = ⊥
+alike (x ∷ t) (y ∷ u) = (x .0 ≡ y .0) × keeps (x .0) (x .1) (y .1) × alike t u
