@@ -1,13 +1,76 @@
 // Where a splice command ends: a function for each table of the standard, over the bytes from `at` up to `end`.
 ghost use mathlib.Core.Path.{_≡_};
 ghost use Prim.Native.Nat.{ℕ, _*_, _≤_};
+ghost use mathlib.Core.Bool.{cond};
 ghost use lib.ListN.{length};
 ghost use Rattle.bits.specs.Bits.{bit};
 ghost use Rattle.grammar.specs.Meaning.{Env, valueOf, run};
-ghost use Rattle.grammar.specs.Tables.{splice-time, avails, avail-numbers, insert-component, insert-times, splice-insert, schedule-times, schedule-event, splice-schedule};
+ghost use Rattle.grammar.specs.Tables.{bytes, private-command, splice-time, avails, avail-numbers, insert-component, insert-times, splice-insert, schedule-times, schedule-event, splice-schedule};
+ghost use Rattle.grammar.specs.Syntax.{stop};
 ghost use Rattle.grammar.specs.Ended.{outcome};
 ghost use Rattle.grammar.proofs.Run.{Runs, times};
+ghost use Rattle.commands.specs.Command.{commandEnd, tableOf};
 use grammar::Ended;
+
+// The byte of the section at which its command ends; Broken where the command breaks its table or its length, or where
+// the bytes are too few for a section. A length of 0xFFF leaves the end to the table.
+pub fn command_end(s: &[u8]) -> Ended
+    ensures { λ r. ⌜ r ≡ commandEnd (now (s .entry)) ⌝ }
+{
+    if s.len() < 20 {
+        return Ended::Broken;
+    }
+    let end = s.len() - 4;
+    let splice_command_length = bits::read(s, 92, 12);
+    if splice_command_length == 0xFFF {
+        return command(s, 14, end, s[13], false);
+    }
+    if ((end - 14) as u64) < splice_command_length {
+        return Ended::Broken;
+    }
+    let part = 14 + (splice_command_length as usize);
+    let Ended::At(next) = command(s, 14, part, s[13], true) else {
+        return Ended::Broken;
+    };
+    if next == part {
+        Ended::At(part)
+    } else {
+        Ended::Broken
+    }
+}
+
+// The command's own table, by splice_command_type (Table 7). Private and unknown commands take all of a part whose length
+// the header gives, and have no end where it gives none.
+fn command(s: &[u8], at: usize, end: usize, splice_command_type: u8, sized: bool) -> Ended
+    requires { ⌜ (at ≤ end) × (end ≤ length (now s)) ⌝ }
+    ensures { λ r. ⌜ ((env : Env) → Runs (tableOf «splice_command_type» (cond sized private-command stop) (cond sized (bytes "command_byte") stop)) env (bit (now (s .entry))) (8 * end) (8 * at) (outcome r)) ⌝ }
+{
+    match splice_command_type {
+        0x00 | 0x07 => Ended::At(at),
+        0x04 => splice_schedule(s, at, end),
+        0x05 => splice_insert(s, at, end),
+        0x06 => splice_time(s, at, end),
+        0xFF => {
+            if sized {
+                private_command(at, end)
+            } else {
+                Ended::Broken
+            }
+        }
+        _ => { if sized { Ended::At(end) } else { Ended::Broken } }
+    }
+}
+
+// Table 13.
+fn private_command(at: usize, end: usize) -> Ended
+    requires { ⌜ at ≤ end ⌝ }
+    ensures { λ r. ⌜ ((env : Env) (f : ℕ → ℕ) → Runs private-command env f (8 * end) (8 * at) (outcome r)) ⌝ }
+{
+    if end - at < 4 {
+        return Ended::Broken;
+    }
+    Ended::At(end)
+}
 
 // Table 14.
 fn splice_time(s: &[u8], at: usize, end: usize) -> Ended
@@ -65,7 +128,13 @@ fn insert_component(s: &[u8], at: usize, end: usize, splice_immediate_flag: u8) 
 }
 
 // Table 10, the components.
-fn insert_components(s: &[u8], at: usize, end: usize, component_count: usize, splice_immediate_flag: u8) -> Ended
+fn insert_components(
+    s: &[u8],
+    at: usize,
+    end: usize,
+    component_count: usize,
+    splice_immediate_flag: u8,
+) -> Ended
     requires { ⌜ (at ≤ end) × (end ≤ length (now s)) ⌝ }
     ensures { λ r. ⌜ ((env : Env) → valueOf env "splice_immediate_flag" ≡ «splice_immediate_flag» → times «component_count» (run insert-component env (bit (now (s .entry))) (8 * end)) (8 * at) ≡ outcome r) ⌝ }
 {
@@ -82,7 +151,13 @@ fn insert_components(s: &[u8], at: usize, end: usize, component_count: usize, sp
 }
 
 // Table 10, when the splice takes place.
-fn insert_times(s: &[u8], at: usize, end: usize, program_splice_flag: u8, splice_immediate_flag: u8) -> Ended
+fn insert_times(
+    s: &[u8],
+    at: usize,
+    end: usize,
+    program_splice_flag: u8,
+    splice_immediate_flag: u8,
+) -> Ended
     requires { ⌜ (at ≤ end) × (end ≤ length (now s)) ⌝ }
     ensures { λ r. ⌜ ((env : Env) → valueOf env "program_splice_flag" ≡ «program_splice_flag» → valueOf env "splice_immediate_flag" ≡ «splice_immediate_flag» → Runs insert-times env (bit (now (s .entry))) (8 * end) (8 * at) (outcome r)) ⌝ }
 {

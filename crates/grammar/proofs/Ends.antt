@@ -156,4 +156,3 @@ sweep-more (suc n) g end k h l =
     ap (λ (b : Bool). cond b (reached k []) (then (g k) (λ j. cond (ltb k j) (sweep n g end j) (broken 0)))) (lt-leb end k l)
     ∙ ap (then (g k))
     (fun-ext (λ j. cond-same (ltb k j) (λ c. sweep-steps n (end - j) g end j (omega (arith, ltb-true k j c)) (omega arith)) (λ c. refl)))
-

@@ -1,11 +1,15 @@
 -- Fields at byte places, as code reads them off whole bytes.
 -- Assumes nothing.
-use mathlib.Core.Path.{_≡_, ap, _∙_}
+use mathlib.Core.Path.{_≡_, refl, ap, _∙_}
 use mathlib.Core.List.{List}
 use Prim.Native.Nat.{ℕ, _+_, _-_, _*_, _/_, _%_, _^_, _<_}
+use native.Mathlib.Omega.{arith}
 use lib.ListN.{getD}
 use lib.Dec.{eqb}
 use Rattle.bits.specs.Bits.{bit, num}
+use Rattle.grammar.specs.declared.Ended.{Ended}
+use Rattle.grammar.specs.declared.Ended.the-variants.{At, Broken}
+use Rattle.grammar.specs.Ended.{outcome, ended}
 use Rattle.bits.proofs.Num.{num-one}
 use Rattle.bits.proofs.Bytes.{bit-at, byte-field}
 
@@ -20,3 +24,10 @@ octet s at k h e = ap (λ (x : ℕ). num (bit s) x 8) e ∙ byte-field s at h
 -- so a test of a flag is a test of that bit
 pub flag-test : (s : List ℕ) (at j k v w : ℕ) → j < 8 → k ≡ 8 * at + j → getD s at 0 / 2 ^ (7 - j) % 2 ≡ v → eqb (num (bit s) k 1) w ≡ eqb v w
 flag-test s at j k v w h e q = ap (λ (x : ℕ). eqb x w) (flag s at j k h e ∙ q)
+
+-- an answer is what its outcome says
+pub answered : (r : Ended) → ended (outcome r) ≡ r
+answered (At n) =
+    let same : 8 * n / 8 ≡ n = omega arith in
+    ap At same
+answered Broken = refl

@@ -9,7 +9,7 @@ use Prim.Native.String.{String}
 use native.Mathlib.Nat.{suc-mul}
 use native.Mathlib.Omega.{arith}
 use lib.Dec.{leb, ltb, eqb}
-use borrow.Author.Tests.{le-leb, lt-leb, lt-ltb, le-ltb}
+use borrow.Author.Tests.{le-leb, lt-leb, lt-ltb, le-ltb, eq-eqb, ne-eqb}
 use Rattle.bits.proofs.Cases.{le-or-lt}
 use Rattle.grammar.specs.Syntax.{Item, Test, Prog, field, reserved, is, among, more, done, stop, fields, branch, call, repeat, frame, fill, under}
 use Rattle.grammar.specs.Meaning.{Env, valueOf, widthOf, width, values, bind, holds, Reading, broken, reached, after, then, again, sweep, exactly, numbered, read, Outcome, breach, ends, endOf, run}
@@ -227,6 +227,21 @@ framed {n} {a} {p} {env} {f} {end} {k} {e} {x} {o} same h r q =
           ∙ ap (λ (t : Bool). endOf (cond t (then (exactly e (read a env f e k)) (λ j. read p env f end j)) (broken 0))) (le-leb e end h)
           ∙ seq p env f end (exactly e (read a env f e k)) (end-exactly e (read a env f e k) ∙ ap (exact e) (r .runs)) q;
     }
+
+-- the body uses the part up; it does not; it breaks a rule
+pub framed-all : {n : String} {a p : Prog} {env : Env} {f : ℕ → ℕ} {end k e : ℕ} {o : Outcome} → k + 8 * valueOf env n ≡ e → e ≤ end
+    → Runs a env f e k (ends e) → Runs p env f end e o → Runs (frame n a p) env f end k o
+framed-all {p = p} {env = env} {f = f} {end = end} {e = e} same h r q =
+    framed same h r (ap (λ (t : Bool). on (cond t (ends e) (breach 0)) (run p env f end)) (eq-eqb e e refl) ∙ q .runs)
+
+pub framed-left : {n : String} {a p : Prog} {env : Env} {f : ℕ → ℕ} {end k e j : ℕ} → k + 8 * valueOf env n ≡ e → e ≤ end
+    → Runs a env f e k (ends j) → (j ≡ e → ⊥) → Runs (frame n a p) env f end k (breach 0)
+framed-left {p = p} {env = env} {f = f} {end = end} {e = e} {j = j} same h r left =
+    framed same h r (ap (λ (t : Bool). on (cond t (ends j) (breach 0)) (run p env f end)) (ne-eqb j e left))
+
+pub framed-off : {n : String} {a p : Prog} {env : Env} {f : ℕ → ℕ} {end k e m : ℕ} → k + 8 * valueOf env n ≡ e → e ≤ end
+    → Runs a env f e k (breach m) → Runs (frame n a p) env f end k (breach m)
+framed-off same h r = framed same h r refl
 
 pub frame-short : {n : String} {a p : Prog} {env : Env} {f : ℕ → ℕ} {end k : ℕ} → end < k + 8 * valueOf env n
     → Runs (frame n a p) env f end k (breach 0)

@@ -1,6 +1,6 @@
-use mathlib.Core.Path.{refl}
+-- `commands::avail_numbers` meets its contract: four bytes.
+-- Assumes nothing.
 use native.Mathlib.Omega.{arith}
-use borrow.Author.Tests.{eq-eqb, ne-eqb}
 use Rattle.grammar.specs.Tables.{avail-numbers}
 use Rattle.grammar.proofs.Run.{pass, short, finished}
 use borrow.Author.Needs.{needs}

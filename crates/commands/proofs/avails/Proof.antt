@@ -1,9 +1,10 @@
-use mathlib.Core.Path.{_≡_, refl, ap, _∙_}
-use Prim.Native.Nat.{ℕ, _+_, _*_}
+-- `commands::avails` meets its contract: the duration where its flag is set, and then the numbers.
+-- Assumes nothing.
+use mathlib.Core.Path.{_≡_, refl, _∙_}
+use Prim.Native.Nat.{_+_, _*_}
 use native.Mathlib.Omega.{arith}
 use borrow.Author.Tests.{eq-eqb, ne-eqb}
 use Rattle.grammar.specs.Tables.{avails, break-duration}
-use Rattle.grammar.specs.Ended.{outcome}
 use Rattle.grammar.proofs.Run.{pass, short, yes, no, finished, at-place}
 use mathlib.Core.Path.{sym}
 use Rattle.bits.specs.Bits.{bit}

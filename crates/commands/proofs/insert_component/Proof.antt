@@ -1,9 +1,10 @@
-use mathlib.Core.Path.{_≡_, refl, ap, _∙_}
-use Prim.Native.Nat.{ℕ, _+_, _*_}
+-- `commands::insert_component` meets its contract: a tag, and a time unless the splice is immediate.
+-- Assumes nothing.
+use mathlib.Core.Path.{_≡_, refl, _∙_}
+use Prim.Native.Nat.{_+_, _*_}
 use native.Mathlib.Omega.{arith}
 use borrow.Author.Tests.{eq-eqb, ne-eqb}
 use Rattle.grammar.specs.Tables.{insert-component}
-use Rattle.grammar.specs.Ended.{outcome}
 use Rattle.grammar.proofs.Run.{pass, short, yes-last, no, finished, at-place}
 use mathlib.Core.Path.{sym}
 use borrow.Author.Needs.{needs}

@@ -1,5 +1,7 @@
-use mathlib.Core.Path.{_≡_, refl, sym, ap, _∙_}
-use Prim.Native.Nat.{ℕ, _+_, _-_, _*_, _≤_}
+-- `commands::insert_components` meets its contract. The loop's invariant: whatever the components left end in, all of them end in.
+-- Assumes nothing.
+use mathlib.Core.Path.{_≡_, refl, ap, _∙_}
+use Prim.Native.Nat.{_-_, _*_, _≤_}
 use native.Mathlib.Omega.{arith}
 use borrow.Author.Needs.{needs}
 use Rattle.bits.specs.Bits.{bit}
@@ -11,36 +13,28 @@ use mathlib.Core.List.{[], _∷_}
 use Rattle.grammar.specs.Ended.{outcome}
 use Rattle.commands.proofs.insert_components.Statement.{statement}
 use Rattle.commands.proofs.insert_components.Tie as tie
-use Rattle.commands.proofs.insert_components.Reads as reads
-use Rattle.commands.proofs.insert_components.Lts as lts
-use Rattle.commands.proofs.insert_component.Reads as insert-component-reads
 
 abbrev Inv-loop : tie.InvT-loop
 Inv-loop s at end component-count splice-immediate-flag next₀ left₀ next left =
     (next ≤ end)
     × ((env : Env) → valueOf env "splice_immediate_flag" ≡ splice-immediate-flag
-      → times component-count (run insert-component env (bit s) (8 * end)) (8 * at) ≡ times left (run insert-component env (bit s) (8 * end)) (8 * next))
+    → times component-count (run insert-component env (bit s) (8 * end)) (8 * at) ≡ times left (run insert-component env (bit s) (8 * end)) (8 * next))
 
 abbrev μ-loop : tie.MeasureT-loop
 μ-loop s at end component-count splice-immediate-flag next₀ left₀ next left = left
 
--- src/lib.rt:74:5
 loop-holds : tie.Need-loop-holds Inv-loop μ-loop
 loop-holds c = (omega arith, λ env e. refl)
 
--- src/lib.rt:75:32
 insert-component-requires : tie.Need-insert-component-requires Inv-loop μ-loop
 insert-component-requires c κs = omega arith
 
--- src/lib.rt:75:23
 enum-known-after : tie.Need-enum-known-after Inv-loop μ-loop
 enum-known-after c = search needs
 
--- src/lib.rt:76:13
 enum-told : tie.Need-enum-told Inv-loop μ-loop
 enum-told c = search needs
 
--- src/lib.rt:76:13
 returns : tie.Need-returns Inv-loop μ-loop
 returns c env e =
     let a = c .before .before .before .before .before .before .args in
@@ -48,28 +42,25 @@ returns c env e =
     let one = c .before .before .insert-component in
     l .inv .1 env e
     ∙ times-off (l .left) (run insert-component env (bit (a .s .now)) (8 * a .end)) (8 * l .next) (c .before .before .before .loop-test .taken)
-      (one .ensures env e .runs ∙ ap outcome (c .enum-told .given .1))
+    (one .ensures env e .runs ∙ ap outcome (c .enum-told .given .1))
 
--- src/lib.rt:79:9
 sub-left : tie.Need-sub-left Inv-loop μ-loop
 sub-left c = omega arith
 
--- src/lib.rt:74:5
 loop-less : tie.Need-loop-less Inv-loop μ-loop
 loop-less c = omega arith
 
--- src/lib.rt:74:5
 loop-again : tie.Need-loop-again Inv-loop μ-loop
 loop-again c =
     let a = c .before .before .before .before .before .before .before .args in
     let l = c .before .before .before .before .before .loop in
     let one = c .before .before .before .insert-component in
     let ended : (env : Env) → valueOf env "splice_immediate_flag" ≡ a .splice-immediate-flag → run insert-component env (bit (a .s .now)) (8 * a .end) (8 * l .next) ≡ ends (8 * c .before .after .given .0 .0) =
-        λ env e. one .ensures env e .runs ∙ ap outcome (c .before .after .given .1) in
-    (byte-within insert-component (("splice_immediate_flag", a .splice-immediate-flag) ∷ []) (bit (a .s .now)) (a .end) (l .next) (c .before .after .given .0 .0) (ended _ refl) (l .inv .0) .1,
-    λ env e. l .inv .1 env e ∙ times-on (l .left) (run insert-component env (bit (a .s .now)) (8 * a .end)) (8 * l .next) (c .before .before .before .before .loop-test .taken) (ended env e))
+    λ env e. one .ensures env e .runs ∙ ap outcome (c .before .after .given .1) in (
+      byte-within insert-component (("splice_immediate_flag", a .splice-immediate-flag) ∷ []) (bit (a .s .now)) (a .end) (l .next) (c .before .after .given .0 .0) (ended _ refl) (l .inv .0) .1,
+      λ env e. l .inv .1 env e ∙ times-on (l .left) (run insert-component env (bit (a .s .now)) (8 * a .end)) (8 * l .next) (c .before .before .before .before .loop-test .taken) (ended env e),
+    )
 
--- src/lib.rt:68:1
 returns-2 : tie.Need-returns-2 Inv-loop μ-loop
 returns-2 c env e =
     let a = c .before .before .before .args in

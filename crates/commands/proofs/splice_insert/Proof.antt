@@ -1,88 +1,70 @@
-use mathlib.Core.Path.{_≡_, refl, sym, ap, ap₂, _∙_}
-use mathlib.Core.List.{List, [], _∷_}
-use Prim.Native.Nat.{ℕ, _+_, _-_, _*_, _/_, _%_, _≤_}
+-- `commands::splice_insert` meets its contract: a cancelled event ends after its id; any other goes on by its flags.
+-- Assumes nothing.
+use mathlib.Core.Path.{_≡_, refl, ap, _∙_}
+use mathlib.Core.List.{[], _∷_}
+use Prim.Native.Nat.{_+_, _-_, _*_}
 use native.Mathlib.Omega.{arith}
-use borrow.Author.Tests.{eq-eqb, ne-eqb}
-use Rattle.bits.specs.Bits.{bit, num}
-use Rattle.grammar.specs.Meaning.{Env, valueOf, run, Outcome, ends, breach}
+use Rattle.bits.specs.Bits.{bit}
+use Rattle.grammar.specs.Meaning.{ends}
 use Rattle.grammar.specs.Tables.{splice-insert, insert-times}
 use Rattle.grammar.specs.Ended.{outcome}
 use Rattle.grammar.proofs.Run.{becomes, pass, short, called, called-last, at-place}
-use Rattle.grammar.proofs.Places.{flag, flag-test, octet}
+use Rattle.grammar.proofs.Places.{flag}
 use Rattle.grammar.proofs.Within.{byte-within}
 use Rattle.commands.proofs.Events.{cancelled, going-on}
 use borrow.Author.Needs.{needs}
 use Rattle.commands.proofs.splice_insert.Statement.{statement}
 use Rattle.commands.proofs.splice_insert.Tie as tie
-use Rattle.commands.proofs.splice_insert.Reads as reads
-use Rattle.commands.proofs.splice_insert.Lts as lts
-use Rattle.commands.proofs.avails.Reads as avails-reads
-use Rattle.commands.proofs.insert_times.Reads as insert-times-reads
 
--- src/lib.rt:106:8
 sub-if1 : tie.Need-sub-if1
 sub-if1 c = search needs
 
--- src/lib.rt:107:9
 returns : tie.Need-returns
 unfolding splice-insert
 returns c env = short (omega arith)
 
--- src/lib.rt:109:17
 add-if2 : tie.Need-add-if2
 add-if2 c = search needs
 
--- src/lib.rt:109:15
 shared-slice-read-if2 : tie.Need-shared-slice-read-if2
 shared-slice-read-if2 c = search needs
 
--- src/lib.rt:110:26
 add-t10 : tie.Need-add-t10
 add-t10 c = search needs
 
--- src/lib.rt:110:9
 returns-2 : tie.Need-returns-2
 unfolding splice-insert
 returns-2 c env =
     let a = c .before .before .before .before .args in
     cancelled (a .s .now) (a .at) (a .end) env (omega arith) _ (c .if2 .taken) ((c .before .shared-slice-known2 .given (a .at + 4)) .fits)
 
--- src/lib.rt:112:8
 sub-if3 : tie.Need-sub-if3
 sub-if3 c = search needs
 
--- src/lib.rt:113:9
 returns-3 : tie.Need-returns-3
 unfolding splice-insert
 returns-3 c env =
     let a = c .before .before .before .before .before .args in
     going-on (a .s .now) (a .at) (a .end) env (omega arith) (c .before .if2 .left) (short (omega arith))
 
--- src/lib.rt:115:19
 add-flags : tie.Need-add-flags
 add-flags c = search needs
 
--- src/lib.rt:115:17
 shared-slice-read-flags : tie.Need-shared-slice-read-flags
 shared-slice-read-flags c = search needs
 
--- src/lib.rt:116:43
 add-insert-times : tie.Need-add-insert-times
 add-insert-times c = search needs
 
--- src/lib.rt:116:27
 insert-times-requires : tie.Need-insert-times-requires
 insert-times-requires c κs = search needs
 
--- src/lib.rt:116:19
 enum-known-next : tie.Need-enum-known-next
 enum-known-next c = search needs
 
--- src/lib.rt:117:9
 enum-told : tie.Need-enum-told
 enum-told c = search needs
 
--- src/lib.rt:117:9
 returns-4 : tie.Need-returns-4
 unfolding splice-insert
 returns-4 c env =
@@ -91,9 +73,8 @@ returns-4 c env =
     let place : 8 * (a .at + 5) + 8 ≡ 8 * (a .at + 6) = omega arith in
     going-on (a .s .now) (a .at) (a .end) env (omega arith) (t .before .before .before .if2 .left)
     (pass (omega arith)
-      (called (at-place place (becomes (t .insert-times .ensures _ (flag (a .s .now) (a .at + 5) 1 (8 * (a .at + 5) + 1) (omega arith) (omega arith)) (flag (a .s .now) (a .at + 5) 3 (8 * (a .at + 5) + 1 + 1 + 1) (omega arith) (omega arith))) (ap outcome (c .enum-told .given .1)))) refl))
+    (called (at-place place (becomes (t .insert-times .ensures _ (flag (a .s .now) (a .at + 5) 1 (8 * (a .at + 5) + 1) (omega arith) (omega arith)) (flag (a .s .now) (a .at + 5) 3 (8 * (a .at + 5) + 1 + 1 + 1) (omega arith) (omega arith))) (ap outcome (c .enum-told .given .1)))) refl))
 
--- src/lib.rt:119:5
 avails-requires : tie.Need-avails-requires
 avails-requires c κs =
     let t = c .before .before .before in
@@ -101,7 +82,6 @@ avails-requires c κs =
     let reached = t .insert-times .ensures (("program_splice_flag", _) ∷ ("splice_immediate_flag", _) ∷ []) refl refl in
     omega (arith, byte-within insert-times _ (bit (a .s .now)) (a .end) (a .at + 6) (c .before .next .given .0 .0) (reached .runs ∙ ap outcome (c .before .next .given .1)) (omega arith))
 
--- src/lib.rt:102:1
 returns-5 : tie.Need-returns-5
 unfolding splice-insert
 returns-5 c env =
@@ -110,8 +90,8 @@ returns-5 c env =
     let place : 8 * (a .at + 5) + 8 ≡ 8 * (a .at + 6) = omega arith in
     going-on (a .s .now) (a .at) (a .end) env (omega arith) (t .before .before .before .if2 .left)
     (pass (omega arith)
-      (called (at-place place (becomes (t .insert-times .ensures _ (flag (a .s .now) (a .at + 5) 1 (8 * (a .at + 5) + 1) (omega arith) (omega arith)) (flag (a .s .now) (a .at + 5) 3 (8 * (a .at + 5) + 1 + 1 + 1) (omega arith) (omega arith))) (ap outcome (c .before .before .next .given .1))))
-      (called-last (c .avails .ensures _ (flag (a .s .now) (a .at + 5) 2 (8 * (a .at + 5) + 1 + 1) (omega arith) (omega arith))) .runs)))
+    (called (at-place place (becomes (t .insert-times .ensures _ (flag (a .s .now) (a .at + 5) 1 (8 * (a .at + 5) + 1) (omega arith) (omega arith)) (flag (a .s .now) (a .at + 5) 3 (8 * (a .at + 5) + 1 + 1 + 1) (omega arith) (omega arith))) (ap outcome (c .before .before .next .given .1))))
+    (called-last (c .avails .ensures _ (flag (a .s .now) (a .at + 5) 2 (8 * (a .at + 5) + 1 + 1) (omega arith) (omega arith))) .runs)))
 
 pub splice-insert-spec : {M : Type 1} → statement M
 splice-insert-spec =

@@ -1,10 +1,10 @@
+-- `commands::splice_time` meets its contract: one byte, or five where the flag says that a time is given.
+-- Assumes nothing.
 use mathlib.Core.Path.{refl}
 use native.Mathlib.Omega.{arith}
-use borrow.Author.Tests.{eq-eqb, ne-eqb}
 use Rattle.grammar.specs.Tables.{splice-time}
 use Rattle.grammar.proofs.Run.{pass, short, yes, no, finished}
 use Rattle.grammar.proofs.Places.{flag, flag-test}
-use mathlib.Core.List.{List}
 use Prim.Native.Nat.{_*_}
 use borrow.Author.Needs.{needs}
 use Rattle.commands.proofs.splice_time.Statement.{statement}
