@@ -1,0 +1,8 @@
+pub mod Xor
+pub mod Register
+pub mod Bytes
+pub mod Ahead
+pub mod Turns
+pub mod Residue
+pub mod Arms
+pub mod Known
