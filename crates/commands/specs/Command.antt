@@ -7,19 +7,16 @@ use lib.ListN.{length}
 use lib.Dec.{ltb, eqb}
 use Rattle.bits.specs.Bits.{bit}
 use Rattle.grammar.specs.Syntax.{Prog, field, done}
-use Rattle.grammar.specs.Meaning.{Env, bind, run}
+use Rattle.grammar.specs.Meaning.{Env, bind, Outcome, breach, run}
 use Rattle.grammar.specs.Tables.{header, sized-command, splice-time, splice-insert, splice-schedule}
-use Rattle.grammar.specs.declared.Ended.{Ended}
-use Rattle.grammar.specs.declared.Ended.the-variants.{Broken}
-use Rattle.grammar.specs.Ended.{ended}
 
 -- what is known where the command starts, at byte 14: the header's values, and splice_command_type's in byte 13
 unfoldable pub known : List ℕ → Env
 known s = bind (field 8 "splice_command_type" ∷ []) (bit s) 104 (bind header (bit s) 0 [])
 
--- the byte at which the command ends, before the CRC; Broken where it breaks its table or its length, or the bytes are too few for a section
-unfoldable pub commandEnd : List ℕ → Ended
-commandEnd s = cond (ltb (length s) 20) Broken (ended (run sized-command (known s) (bit s) (8 * (length s - 4)) (8 * 14)))
+-- where the command ends, before the CRC; a breach where it breaks its table or its length, or the bytes are too few for a section
+unfoldable pub commandEnd : List ℕ → Outcome
+commandEnd s = cond (ltb (length s) 20) (breach 0) (run sized-command (known s) (bit s) (8 * (length s - 4)) (8 * 14))
 
 -- ---- for private functions
 

@@ -15,7 +15,7 @@ use grammar::Ended;
 // The byte of the section at which its command ends; Broken where the command breaks its table or its length, or where
 // the bytes are too few for a section. A length of 0xFFF leaves the end to the table.
 pub fn command_end(s: &[u8]) -> Ended
-    ensures { λ r. ⌜ r ≡ commandEnd (now (s .entry)) ⌝ }
+    ensures { λ r. ⌜ outcome r ≡ commandEnd (now (s .entry)) ⌝ }
 {
     if s.len() < 20 {
         return Ended::Broken;

@@ -1,6 +1,6 @@
 -- What a table's function answers, as the outcome of a run: bytes as bits.
 -- Assumes nothing.
-use Prim.Native.Nat.{_*_, _/_}
+use Prim.Native.Nat.{_*_}
 use Rattle.grammar.specs.declared.Ended.{Ended}
 use Rattle.grammar.specs.declared.Ended.the-variants.{At, Broken}
 use Rattle.grammar.specs.Meaning.{Outcome, breach, ends}
@@ -8,8 +8,3 @@ use Rattle.grammar.specs.Meaning.{Outcome, breach, ends}
 abbrev pub outcome : Ended → Outcome
 outcome (At n) = ends (8 * n)
 outcome Broken = breach 0
-
--- and the other way round: the byte at which the run ends
-abbrev pub ended : Outcome → Ended
-ended (ends k) = At (k / 8)
-ended (breach n) = Broken

@@ -3,3 +3,4 @@ pub mod Meaning
 pub mod Tables
 pub mod Ended
 pub mod Traces
+pub mod Writing

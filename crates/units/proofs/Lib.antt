@@ -1,3 +1,4 @@
 pub mod One
 pub mod Times
 pub mod Numbers
+pub mod Rows

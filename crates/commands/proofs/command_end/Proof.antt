@@ -10,13 +10,13 @@ use borrow.Author.Tests.{lt-ltb, le-ltb, le-leb, eq-eqb, ne-eqb}
 use Rattle.bits.specs.Bits.{bit, num}
 use Rattle.bits.proofs.Within.{field-in, narrow}
 use Rattle.grammar.specs.Syntax.{stop}
-use Rattle.grammar.specs.Meaning.{valueOf, run, ends}
+use Rattle.grammar.specs.Meaning.{valueOf, run, breach, ends}
 use Rattle.grammar.specs.Tables.{sized-command, private-command, bytes}
 use Rattle.grammar.specs.declared.Ended.{Ended}
 use Rattle.grammar.specs.declared.Ended.the-variants.{At, Broken}
-use Rattle.grammar.specs.Ended.{outcome, ended}
+use Rattle.grammar.specs.Ended.{outcome}
 use Rattle.grammar.proofs.Run.{Runs, becomes, yes-last, no-last, framed-all, framed-left, framed-off, frame-short, finished}
-use Rattle.grammar.proofs.Places.{octet, answered}
+use Rattle.grammar.proofs.Places.{octet}
 use Rattle.commands.specs.Command.{known, commandEnd}
 use Rattle.commands.proofs.Types.{by-type}
 use borrow.Author.Needs.{needs}
@@ -24,13 +24,12 @@ use Rattle.commands.proofs.command_end.Statement.{statement}
 use Rattle.commands.proofs.command_end.Tie as tie
 
 -- a section's command ends where its run says
-finish : (s : List ℕ) (r : Ended) → 20 ≤ length s → Runs sized-command (known s) (bit s) (8 * (length s - 4)) (8 * 14) (outcome r) → r ≡ commandEnd s
+finish : (s : List ℕ) (r : Ended) → 20 ≤ length s → Runs sized-command (known s) (bit s) (8 * (length s - 4)) (8 * 14) (outcome r) → outcome r ≡ commandEnd s
 unfolding commandEnd
 finish s r long h =
     sym
-    (ap (λ (t : Bool). cond t Broken (ended (run sized-command (known s) (bit s) (8 * (length s - 4)) (8 * 14)))) (le-ltb (length s) 20 long)
-    ∙ ap ended (h .runs)
-    ∙ answered r)
+    (ap (λ (t : Bool). cond t (breach 0) (run sized-command (known s) (bit s) (8 * (length s - 4)) (8 * 14))) (le-ltb (length s) 20 long)
+    ∙ h .runs)
 
 -- the two values that the command's table looks at, as the code reads them
 given-type : (s : List ℕ) → getD s 13 0 < 256 → valueOf (known s) "splice_command_type" ≡ getD s 13 0
@@ -51,7 +50,7 @@ returns : tie.Need-returns
 unfolding commandEnd known sized-command
 returns c =
     let s = c .before .before .args .s .now in
-    sym (ap (λ (t : Bool). cond t Broken (ended (run sized-command (known s) (bit s) (8 * (length s - 4)) (8 * 14)))) (lt-ltb (length s) 20 (c .if1 .taken)))
+    sym (ap (λ (t : Bool). cond t (breach 0) (run sized-command (known s) (bit s) (8 * (length s - 4)) (8 * 14))) (lt-ltb (length s) 20 (c .if1 .taken)))
 
 sub-end : tie.Need-sub-end
 sub-end c = search needs

@@ -1,0 +1,105 @@
+-- The rows of acceptance, as the code tests them: what each asks of the header's bytes.
+-- Assumes nothing.
+use mathlib.Core.Path.{_≡_, refl, ap, ap₂, _∙_}
+use mathlib.Core.Bool.{Bool, true, false, not, _||_}
+use mathlib.Core.List.{List, [], _∷_}
+use mathlib.Core.Logic.{⊎-elim}
+use Prim.Native.Nat.{ℕ, _+_, _-_, _*_, _≤_, _<_}
+use native.Mathlib.Omega.{arith}
+use lib.ListN.{length, getD}
+use lib.Dec.{ltb, eqb}
+use borrow.Author.Tests.{lt-ltb, le-ltb, eq-eqb, ne-eqb}
+use Rattle.bits.specs.Bits.{bit, num}
+use Rattle.bits.proofs.Bytes.{AreBytes}
+use Rattle.bits.proofs.Cases.{le-or-lt}
+use Rattle.grammar.proofs.Places.{flag-test, octet}
+use Rattle.grammar.specs.Meaning.{bind, ends}
+use Rattle.grammar.specs.Tables.{header, payload, splice-info-section}
+use Rattle.grammar.proofs.Run.{Runs, pass, yes-last, no-last, filled-last, swept-bytes}
+use Rattle.section.specs.declared.Verdict.{Verdict}
+use Rattle.section.specs.Accept.{the, ruleOf, broken, judged}
+
+or-left : (a b : Bool) → a ≡ true → (a || b) ≡ true
+or-left a b e = ap (λ (t : Bool). t || b) e
+
+or-right : (a b : Bool) → a ≡ false → b ≡ true → (a || b) ≡ true
+or-right a b e q = ap₂ (λ (t u : Bool). t || u) e q
+
+module _ (s : List ℕ) (hs : AreBytes s) where
+  table-id : (b : Bool) → eqb (getD s 0 0) 0xFC ≡ b → not (eqb (the s "table_id") 0xFC) ≡ not b
+  unfolding the
+  table-id b e = ap (λ (x : ℕ). not (eqb x 0xFC)) (octet s 0 0 (hs 0) refl) ∙ ap not e
+
+  pub table : getD s 0 0 ≡ 0xFC → not (eqb (the s "table_id") 0xFC) ≡ false
+  table e = table-id true (eq-eqb (getD s 0 0) 0xFC e)
+
+  pub no-table : (getD s 0 0 ≡ 0xFC → ⊥) → not (eqb (the s "table_id") 0xFC) ≡ true
+  no-table h = table-id false (ne-eqb (getD s 0 0) 0xFC h)
+
+  pub syntax-clear : getD s 1 0 < 64 → (eqb (the s "section_syntax_indicator") 1 || eqb (the s "private_indicator") 1) ≡ false
+  unfolding the
+  syntax-clear h =
+      ap₂ (λ (t u : Bool). t || u) (flag-test s 1 0 8 0 1 (omega arith) refl (omega arith)) (flag-test s 1 1 9 0 1 (omega arith) refl (omega arith))
+
+  pub syntax-set : 64 ≤ getD s 1 0 → (eqb (the s "section_syntax_indicator") 1 || eqb (the s "private_indicator") 1) ≡ true
+  unfolding the
+  syntax-set h =
+      ⊎-elim
+      (λ l. or-left _ _ (flag-test s 1 0 8 1 1 (omega arith) refl (omega (arith, hs 1))))
+      (λ l. or-right _ _ (flag-test s 1 0 8 0 1 (omega arith) refl (omega arith)) (flag-test s 1 1 9 1 1 (omega arith) refl (omega arith)))
+      (le-or-lt 128 (getD s 1 0))
+
+  pub size : the s "section_length" ≤ 4093 → the s "section_length" + 3 ≡ length s
+      → (ltb 4093 (the s "section_length") || not (eqb (the s "section_length" + 3) (length s))) ≡ false
+  size h e = ap₂ (λ (t u : Bool). t || not u) (le-ltb 4093 (the s "section_length") h) (eq-eqb (the s "section_length" + 3) (length s) e)
+
+  pub too-long : 4093 < the s "section_length" → (ltb 4093 (the s "section_length") || not (eqb (the s "section_length" + 3) (length s))) ≡ true
+  too-long h = or-left _ _ (lt-ltb 4093 (the s "section_length") h)
+
+  pub other-length : the s "section_length" ≤ 4093 → (the s "section_length" + 3 ≡ length s → ⊥)
+      → (ltb 4093 (the s "section_length") || not (eqb (the s "section_length" + 3) (length s))) ≡ true
+  other-length h e = ap₂ (λ (t u : Bool). t || not u) (le-ltb 4093 (the s "section_length") h) (ne-eqb (the s "section_length" + 3) (length s) e)
+
+  version : (b : Bool) → eqb (getD s 3 0) 0 ≡ b → not (eqb (the s "protocol_version") 0) ≡ not b
+  unfolding the
+  version b e = ap (λ (x : ℕ). not (eqb x 0)) (octet s 3 24 (hs 3) refl) ∙ ap not e
+
+  pub version-0 : getD s 3 0 ≡ 0 → not (eqb (the s "protocol_version") 0) ≡ false
+  version-0 e = version true (eq-eqb (getD s 3 0) 0 e)
+
+  pub other-version : (getD s 3 0 ≡ 0 → ⊥) → not (eqb (the s "protocol_version") 0) ≡ true
+  other-version h = version false (ne-eqb (getD s 3 0) 0 h)
+
+  pub clear : getD s 4 0 < 128 → eqb (the s "encrypted_packet") 1 ≡ false
+  unfolding the
+  clear h = flag-test s 4 0 32 0 1 (omega arith) refl (omega arith)
+
+  pub sealed : 128 ≤ getD s 4 0 → eqb (the s "encrypted_packet") 1 ≡ true
+  unfolding the
+  sealed h = flag-test s 4 0 32 1 1 (omega arith) refl (omega (arith, hs 4))
+
+-- ---- the grammar's own rows
+
+-- the rule that the whole section breaks, where the rest after the header comes to a verdict
+pub rule : (s : List ℕ) (r : Verdict) → 20 ≤ length s → eqb (the s "encrypted_packet") 1 ≡ false
+    → Runs payload (bind header (bit s) 0 []) (bit s) (8 * (length s - 4)) 104 (judged (length s - 4) r) → broken s ≡ ruleOf (judged (length s - 4) r)
+unfolding broken splice-info-section the
+rule s r long clear-bit r-runs = ap ruleOf (whole .runs)
+  where
+    whole : Runs splice-info-section [] (bit s) (8 * (length s - 4)) 0 (judged (length s - 4) r)
+    whole = pass (omega arith) (no-last clear-bit r-runs)
+
+-- and where it is sealed it breaks none
+pub sealed-rule : (s : List ℕ) → 20 ≤ length s → eqb (the s "encrypted_packet") 1 ≡ true → broken s ≡ 0
+unfolding broken splice-info-section the ruleOf
+sealed-rule s long closed = ap ruleOf (whole .runs)
+  where
+    all : 104 + 8 * (length s - 17) ≡ 8 * (length s - 4)
+    all = omega arith
+
+    whole : Runs splice-info-section [] (bit s) (8 * (length s - 4)) 0 (ends (8 * (length s - 4)))
+    whole = pass (omega arith) (yes-last closed (filled-last (swept-bytes "sealed_byte" _ (bit s) (8 * (length s - 4)) (length s - 17) 104 all)))
+
+-- the last three rows, by that rule
+last-rows : ℕ → List (Bool × ℕ)
+last-rows b = (eqb b 8, 8) ∷ (eqb b 9, 9) ∷ (eqb b 10, 10) ∷ []

@@ -1,0 +1,65 @@
+-- When a section is accepted, and which row of paper 01's table refuses it otherwise.
+-- Assumes nothing.
+use Prim.Native.Nat.{ℕ, zero, suc, _+_, _-_, _*_, _≤_}
+use Prim.Native.String.{String}
+use mathlib.Core.Bool.{Bool, not, _&&_, _||_}
+use mathlib.Core.List.{List, [], _∷_}
+use lib.ListN.{length}
+use lib.Dec.{ltb, eqb}
+use Rattle.bits.specs.Bits.{bit}
+use Rattle.crc.specs.Crc.{crc32}
+use Rattle.units.specs.Refusals.{numberOf, first, named}
+use Rattle.grammar.specs.Meaning.{valueOf, bind, Outcome, breach, ends, run}
+use Rattle.grammar.specs.Tables.{header, splice-info-section}
+use Rattle.section.specs.declared.Verdict.{Verdict}
+use Rattle.section.specs.declared.Verdict.the-variants.{Accepted, Refused}
+
+-- the value of a field of the section's header
+unfoldable pub the : List ℕ → String → ℕ
+the s n = valueOf (bind header (bit s) 0 []) n
+
+-- the number of the rule that an outcome breaks, 0 where it breaks none
+unfoldable pub ruleOf : Outcome → ℕ
+ruleOf (breach n) = n
+ruleOf (ends k) = 0
+
+-- the rule of the grammar that the section breaks, over all that stands before CRC_32
+unfoldable pub broken : List ℕ → ℕ
+broken s = ruleOf (run splice-info-section [] (bit s) (8 * (length s - 4)) 0)
+
+-- the first row that applies, 0 where none does
+unfoldable pub acceptRow : List ℕ → ℕ
+acceptRow s =
+    first
+    ((ltb (length s) 20, 1) -- SHORT
+    ∷ (not (eqb (the s "table_id") 0xFC), 2) -- TABLE
+    ∷ (eqb (the s "section_syntax_indicator") 1 || eqb (the s "private_indicator") 1, 3) -- SYNTAX
+    ∷ (ltb 4093 (the s "section_length") || not (eqb (the s "section_length" + 3) (length s)), 4) -- SIZE
+    ∷ (not (eqb (crc32 s) 0), 5) -- CRC
+    ∷ (not (eqb (the s "protocol_version") 0), 6) -- VERSION
+    ∷ (eqb (the s "encrypted_packet") 1 && ltb (length s) 24, 7) -- CRYPT
+    ∷ (eqb (broken s) 8, 8) -- COMMAND
+    ∷ (eqb (broken s) 9, 9) -- LOOP
+    ∷ (eqb (broken s) 10, 10) -- DESCRIPTOR
+    ∷ [])
+
+-- the verdict for a row: no row, 0, accepts
+unfoldable pub verdict : ℕ → Verdict
+verdict zero = Accepted
+verdict (suc row) = Refused (named (suc row))
+
+-- whether the section is accepted, or why not
+unfoldable pub acceptOf : List ℕ → Verdict
+acceptOf s = verdict (acceptRow s)
+
+-- ---- for private functions
+
+-- a verdict on the rest of the section as the outcome of its run: accepted means read to the end
+abbrev pub judged : ℕ → Verdict → Outcome
+judged end Accepted = ends (8 * end)
+judged end (Refused r) = breach (numberOf r)
+
+-- a verdict of the grammar's own: accepted, or one of rows 8 to 10
+abbrev pub grammatical : Verdict → Type 0
+grammatical Accepted = Unit {0}
+grammatical (Refused r) = (8 ≤ numberOf r) × (numberOf r ≤ 10)

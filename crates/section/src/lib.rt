@@ -1,0 +1,96 @@
+// Whether lent bytes are an SCTE 35 section: the rows 1 to 10 of paper 01's table, in their order.
+ghost use mathlib.Core.Path.{_≡_};
+ghost use Prim.Native.Nat.{_+_, _-_, _*_, _≤_};
+ghost use mathlib.Core.Bool.{cond};
+ghost use mathlib.Core.List.{[]};
+ghost use lib.ListN.{length};
+ghost use Rattle.bits.specs.Bits.{bit};
+ghost use Rattle.grammar.specs.Syntax.{under};
+ghost use Rattle.grammar.specs.Meaning.{Env, bind, ends, breach, run};
+ghost use Rattle.grammar.specs.Tables.{header, payload, descriptor-loop, bytes, splice-descriptor};
+ghost use Rattle.grammar.proofs.Run.{Runs, swept};
+ghost use Rattle.section.specs.Accept.{acceptOf, judged, grammatical};
+use grammar::Ended;
+use units::Refusal;
+
+// Accepted, or the first row that refuses.
+pub enum Verdict {
+    Accepted,
+    Refused(Refusal),
+}
+
+// Whether the bytes are a section.
+pub fn accept(s: &[u8]) -> Verdict
+    ensures { λ r. ⌜ r ≡ acceptOf (now (s .entry)) ⌝ }
+{
+    if s.len() < 20 {
+        return Verdict::Refused(Refusal::Short);
+    }
+    if s[0] != 0xFC {
+        return Verdict::Refused(Refusal::Table);
+    }
+    // section_syntax_indicator and private_indicator are the two top bits
+    if 64 <= s[1] {
+        return Verdict::Refused(Refusal::Syntax);
+    }
+    let section_length = bits::read(s, 12, 12) as usize;
+    if 4093 < section_length {
+        return Verdict::Refused(Refusal::Size);
+    }
+    if section_length + 3 != s.len() {
+        return Verdict::Refused(Refusal::Size);
+    }
+    if crc::crc(s) != 0 {
+        return Verdict::Refused(Refusal::Crc);
+    }
+    if s[3] != 0 {
+        return Verdict::Refused(Refusal::Version);
+    }
+    // encrypted_packet is the top bit
+    if s[4] < 128 {
+        return payload(s);
+    }
+    if s.len() < 24 {
+        return Verdict::Refused(Refusal::Crypt);
+    }
+    Verdict::Accepted
+}
+
+// Table 5, from splice_command_type on.
+fn payload(s: &[u8]) -> Verdict
+    requires { ⌜ (20 ≤ length (now s)) × (length (now s) ≤ 4096) ⌝ }
+    ensures { λ r. ⌜ (Runs payload (bind header (bit (now (s .entry))) 0 []) (bit (now (s .entry))) (8 * (length (now (s .entry)) - 4)) 104 (judged (length (now (s .entry)) - 4) r)) × grammatical r ⌝ }
+{
+    let Ended::At(at) = commands::command_end(s) else {
+        return Verdict::Refused(Refusal::Command);
+    };
+    descriptor_loop(s, at)
+}
+
+// Table 5, from descriptor_loop_length on; what the loop leaves before the CRC is stuffing.
+fn descriptor_loop(s: &[u8], at: usize) -> Verdict
+    requires { ⌜ (at + 4 ≤ length (now s)) × (length (now s) ≤ 4096) ⌝ }
+    ensures { λ r. ⌜ ((env : Env) → Runs (under 9 descriptor-loop (bytes "alignment_stuffing")) env (bit (now (s .entry))) (8 * (length (now (s .entry)) - 4)) (8 * at) (judged (length (now (s .entry)) - 4) r)) × grammatical r ⌝ }
+{
+    let end = s.len() - 4;
+    if end - at < 2 {
+        return Verdict::Refused(Refusal::Loop);
+    }
+    let descriptor_loop_length = bits::read(s, 8 * at, 16) as usize;
+    if end - at - 2 < descriptor_loop_length {
+        return Verdict::Refused(Refusal::Loop);
+    }
+    if fills(s, at + 2, at + 2 + descriptor_loop_length) {
+        Verdict::Accepted
+    } else {
+        Verdict::Refused(Refusal::Descriptor)
+    }
+}
+
+// Whether descriptors fill the bytes from `at` up to `end` exactly.
+fn fills(s: &[u8], at: usize, end: usize) -> bool
+    requires { ⌜ (at ≤ end) × (end ≤ length (now s)) ⌝ }
+    ensures { λ r. ⌜ ((env : Env) → swept (run splice-descriptor env (bit (now (s .entry))) (8 * end)) (8 * end) (8 * at) ≡ cond r (ends (8 * end)) (breach 0)) ⌝ }
+{
+    true
+}
