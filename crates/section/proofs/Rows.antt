@@ -17,7 +17,12 @@ use Rattle.grammar.specs.Meaning.{bind, ends}
 use Rattle.grammar.specs.Tables.{header, payload, splice-info-section}
 use Rattle.grammar.proofs.Run.{Runs, pass, yes-last, no-last, filled-last, swept-bytes}
 use Rattle.section.specs.declared.Verdict.{Verdict}
-use Rattle.section.specs.Accept.{the, ruleOf, broken, judged}
+use Rattle.units.specs.declared.refusals.Refusal.the-variants.{Command, Loop, Descriptor}
+use Rattle.units.specs.Refusals.{numberOf}
+use Rattle.units.proofs.Numbers.{number-only}
+use Rattle.units.proofs.Rows.{Row, none, miss, hit}
+use Rattle.section.specs.declared.Verdict.the-variants.{Accepted, Refused}
+use Rattle.section.specs.Accept.{the, ruleOf, broken, judged, grammatical, verdict}
 
 or-left : (a b : Bool) → a ≡ true → (a || b) ≡ true
 or-left a b e = ap (λ (t : Bool). t || b) e
@@ -101,5 +106,19 @@ sealed-rule s long closed = ap ruleOf (whole .runs)
     whole = pass (omega arith) (yes-last closed (filled-last (swept-bytes "sealed_byte" _ (bit s) (8 * (length s - 4)) (length s - 17) 104 all)))
 
 -- the last three rows, by that rule
-last-rows : ℕ → List (Bool × ℕ)
+abbrev pub last-rows : ℕ → List (Bool × ℕ)
 last-rows b = (eqb b 8, 8) ∷ (eqb b 9, 9) ∷ (eqb b 10, 10) ∷ []
+
+-- the row and the verdict that a verdict of the grammar's comes to
+pub last-row : (r : Verdict) (end b : ℕ) → grammatical r → b ≡ ruleOf (judged end r) → (n : ℕ) × Row (last-rows b) n × (r ≡ verdict n)
+unfolding ruleOf verdict
+last-row Accepted end b h e =
+    (0, miss (ne-eqb b 8 (λ q. omega arith)) (miss (ne-eqb b 9 (λ q. omega arith)) (miss (ne-eqb b 10 (λ q. omega arith)) none)), refl)
+last-row (Refused x) end b h e =
+    ⊎-elim
+    (λ l. ⊎-elim
+    (λ m. (10, miss (ne-eqb b 8 (λ q. omega arith)) (miss (ne-eqb b 9 (λ q. omega arith)) (hit (eq-eqb b 10 (omega arith)))), ap Refused (number-only x Descriptor (omega arith))))
+    (λ m. (9, miss (ne-eqb b 8 (λ q. omega arith)) (hit (eq-eqb b 9 (omega arith))), ap Refused (number-only x Loop (omega arith))))
+    (le-or-lt 10 (numberOf x)))
+    (λ l. (8, hit (eq-eqb b 8 (omega arith)), ap Refused (number-only x Command (omega arith))))
+    (le-or-lt 9 (numberOf x))

@@ -31,16 +31,16 @@ broken s = ruleOf (run splice-info-section [] (bit s) (8 * (length s - 4)) 0)
 unfoldable pub acceptRow : List ℕ → ℕ
 acceptRow s =
     first
-    ((ltb (length s) 20, 1) -- SHORT
-    ∷ (not (eqb (the s "table_id") 0xFC), 2) -- TABLE
-    ∷ (eqb (the s "section_syntax_indicator") 1 || eqb (the s "private_indicator") 1, 3) -- SYNTAX
-    ∷ (ltb 4093 (the s "section_length") || not (eqb (the s "section_length" + 3) (length s)), 4) -- SIZE
-    ∷ (not (eqb (crc32 s) 0), 5) -- CRC
-    ∷ (not (eqb (the s "protocol_version") 0), 6) -- VERSION
-    ∷ (eqb (the s "encrypted_packet") 1 && ltb (length s) 24, 7) -- CRYPT
-    ∷ (eqb (broken s) 8, 8) -- COMMAND
-    ∷ (eqb (broken s) 9, 9) -- LOOP
-    ∷ (eqb (broken s) 10, 10) -- DESCRIPTOR
+    ((ltb (length s) 20, 1)  -- SHORT
+    ∷ (not (eqb (the s "table_id") 0xFC), 2)  -- TABLE
+    ∷ (eqb (the s "section_syntax_indicator") 1 || eqb (the s "private_indicator") 1, 3)  -- SYNTAX
+    ∷ (ltb 4093 (the s "section_length") || not (eqb (the s "section_length" + 3) (length s)), 4)  -- SIZE
+    ∷ (not (eqb (crc32 s) 0), 5)  -- CRC
+    ∷ (not (eqb (the s "protocol_version") 0), 6)  -- VERSION
+    ∷ (eqb (the s "encrypted_packet") 1 && ltb (length s) 24, 7)  -- CRYPT
+    ∷ (eqb (broken s) 8, 8)  -- COMMAND
+    ∷ (eqb (broken s) 9, 9)  -- LOOP
+    ∷ (eqb (broken s) 10, 10)  -- DESCRIPTOR
     ∷ [])
 
 -- the verdict for a row: no row, 0, accepts

@@ -10,6 +10,8 @@ ghost use Rattle.grammar.specs.Meaning.{Env, bind, ends, breach, run};
 ghost use Rattle.grammar.specs.Tables.{header, payload, descriptor-loop, bytes, splice-descriptor};
 ghost use Rattle.grammar.proofs.Run.{Runs, swept};
 ghost use Rattle.section.specs.Accept.{acceptOf, judged, grammatical};
+use descriptors::Cursor;
+use descriptors::Step;
 use grammar::Ended;
 use units::Refusal;
 
@@ -92,5 +94,18 @@ fn fills(s: &[u8], at: usize, end: usize) -> bool
     requires { ⌜ (at ≤ end) × (end ≤ length (now s)) ⌝ }
     ensures { λ r. ⌜ ((env : Env) → swept (run splice-descriptor env (bit (now (s .entry))) (8 * end)) (8 * end) (8 * at) ≡ cond r (ends (8 * end)) (breach 0)) ⌝ }
 {
-    true
+    let mut cursor = Cursor { at, end };
+    loop {
+        match cursor.step(s) {
+            Step::Descriptor(_, next) => {
+                cursor = next;
+            }
+            Step::Done => {
+                return true;
+            }
+            Step::Broken => {
+                return false;
+            }
+        }
+    }
 }

@@ -1,83 +1,185 @@
+-- `section::accept` meets its contract: each test rules its row out, and the last ones are the grammar's.
+-- Assumes nothing.
+use mathlib.Core.Path.{_≡_, refl, sym, ap, ap₂, _∙_}
+use mathlib.Core.Bool.{Bool, true, false, cond, not, _&&_, _||_}
+use mathlib.Core.List.{List, [], _∷_}
+use Prim.Native.Nat.{ℕ, _+_, _-_, _*_, _/_, _%_, _≤_, _<_}
+use native.Mathlib.Omega.{arith}
+use lib.ListN.{length, getD}
+use Rattle.bits.specs.Bits.{bit, num}
+use Rattle.bits.proofs.Within.{field-in, narrow}
+use Rattle.grammar.specs.Meaning.{Env, valueOf, bind, run, ends, breach}
+use lib.Dec.{ltb, eqb}
+use borrow.Author.Tests.{lt-ltb, le-ltb, le-leb, ne-eqb}
+use Rattle.bits.proofs.Bytes.{AreBytes}
+use Rattle.crc.specs.Crc.{crc32}
+use Rattle.units.proofs.Rows.{Row, miss, hit}
+use Rattle.section.specs.declared.Verdict.{Verdict}
+use Rattle.section.specs.declared.Verdict.the-variants.{Accepted}
+use Rattle.section.specs.Accept.{the, ruleOf, broken, acceptRow, verdict, acceptOf}
+use Rattle.section.proofs.Rows.{table, no-table, syntax-clear, syntax-set, size, too-long, other-length, version-0, other-version, clear, sealed, rule, sealed-rule, last-rows, last-row}
 use borrow.Author.Needs.{needs}
 use Rattle.section.proofs.accept.Statement.{statement}
 use Rattle.section.proofs.accept.Tie as tie
-use Rattle.section.proofs.accept.Reads as reads
-use Rattle.section.proofs.accept.Lts as lts
-use Rattle.bits.proofs.read.Reads as read-reads
-use Rattle.crc.proofs.crc.Reads as crc-reads
-use Rattle.section.proofs.payload.Reads as payload-reads
 
--- src/lib.rt:27:9
+-- the rows of the table, as the definition lists them
+abbrev rows : List ℕ → List (Bool × ℕ)
+rows s =
+    (ltb (length s) 20, 1)
+    ∷ (not (eqb (the s "table_id") 0xFC), 2)
+    ∷ (eqb (the s "section_syntax_indicator") 1 || eqb (the s "private_indicator") 1, 3)
+    ∷ (ltb 4093 (the s "section_length") || not (eqb (the s "section_length" + 3) (length s)), 4)
+    ∷ (not (eqb (crc32 s) 0), 5)
+    ∷ (not (eqb (the s "protocol_version") 0), 6)
+    ∷ (eqb (the s "encrypted_packet") 1 && ltb (length s) 24, 7)
+    ∷ last-rows (broken s)
+
+-- a verdict is the one for the first row that applies
+decide : (s : List ℕ) {r : Verdict} (n : ℕ) → Row (rows s) n → r ≡ verdict n → r ≡ acceptOf s
+unfolding acceptOf acceptRow
+decide s n row e = e ∙ ap verdict (sym (row .row))
+
+-- section_length, as the code reads it
+given-length : (t : tie.After-read) → the (t .before .before .before .before .before .before .before .args .s .now) "section_length" ≡ t .read .result
+unfolding the
+given-length t =
+    let s = t .before .before .before .before .before .before .before .args .s .now in
+    sym (t .read .ensures ∙ field-in s 12 12 (narrow s 12 12 (omega arith) ∙ le-leb (12 + 12) (8 * length s) (omega arith)))
+
 returns : tie.Need-returns
-returns c = ?
+unfolding verdict
+returns c =
+    let s = c .before .before .args .s .now in
+    let hs : AreBytes s = λ i. (c .before .shared-slice-known .given i) .fits in
+    decide s 1 (hit (lt-ltb (length s) 20 (c .if1 .taken))) refl
 
--- src/lib.rt:29:8
 shared-slice-read-if2 : tie.Need-shared-slice-read-if2
 shared-slice-read-if2 c = search needs
 
--- src/lib.rt:30:9
 returns-2 : tie.Need-returns-2
-returns-2 c = ?
+unfolding verdict
+returns-2 c =
+    let s = c .before .before .before .before .args .s .now in
+    let hs : AreBytes s = λ i. (c .before .before .before .shared-slice-known .given i) .fits in
+    decide s 2 (miss (le-ltb (length s) 20 (c .before .before .if1 .left))
+    (hit (no-table s hs (c .if2 .taken)))) refl
 
--- src/lib.rt:33:14
 shared-slice-read-if3 : tie.Need-shared-slice-read-if3
 shared-slice-read-if3 c = search needs
 
--- src/lib.rt:34:9
 returns-3 : tie.Need-returns-3
-returns-3 c = ?
+unfolding verdict
+returns-3 c =
+    let s = c .before .before .before .before .before .before .args .s .now in
+    let hs : AreBytes s = λ i. (c .before .before .before .before .before .shared-slice-known .given i) .fits in
+    decide s 3 (miss (le-ltb (length s) 20 (c .before .before .before .before .if1 .left))
+    (miss (table s hs (c .before .before .if2 .left))
+    (hit (syntax-set s hs (c .if3 .taken))))) refl
 
--- src/lib.rt:36:26
 read-requires : tie.Need-read-requires
 read-requires c κs = search needs
 
--- src/lib.rt:38:9
 returns-4 : tie.Need-returns-4
-returns-4 c = ?
+unfolding verdict
+returns-4 c =
+    let s = c .before .before .before .before .before .before .before .before .args .s .now in
+    let hs : AreBytes s = λ i. (c .before .before .before .before .before .before .before .shared-slice-known .given i) .fits in
+    decide s 4 (miss (le-ltb (length s) 20 (c .before .before .before .before .before .before .if1 .left))
+    (miss (table s hs (c .before .before .before .before .if2 .left))
+    (miss (syntax-clear s hs (c .before .before .if3 .left))
+    (hit (too-long s hs (omega (arith, given-length (c .before)))))))) refl
 
--- src/lib.rt:40:8
 add-if5 : tie.Need-add-if5
 add-if5 c = search needs
 
--- src/lib.rt:41:9
 returns-5 : tie.Need-returns-5
-returns-5 c = ?
+unfolding verdict
+returns-5 c =
+    let s = c .before .before .before .before .before .before .before .before .before .args .s .now in
+    let hs : AreBytes s = λ i. (c .before .before .before .before .before .before .before .before .shared-slice-known .given i) .fits in
+    decide s 4 (miss (le-ltb (length s) 20 (c .before .before .before .before .before .before .before .if1 .left))
+    (miss (table s hs (c .before .before .before .before .before .if2 .left))
+    (miss (syntax-clear s hs (c .before .before .before .if3 .left))
+    (hit (other-length s hs (omega (arith, given-length (c .before .before))) (λ q. c .if5 .taken (omega (arith, q, given-length (c .before .before))))))))) refl
 
--- src/lib.rt:43:8
 crc-requires : tie.Need-crc-requires
 crc-requires c κs = search needs
 
--- src/lib.rt:44:9
 returns-6 : tie.Need-returns-6
-returns-6 c = ?
+unfolding verdict
+returns-6 c =
+    let s = c .before .before .before .before .before .before .before .before .before .before .before .args .s .now in
+    let hs : AreBytes s = λ i. (c .before .before .before .before .before .before .before .before .before .before .shared-slice-known .given i) .fits in
+    decide s 5 (miss (le-ltb (length s) 20 (c .before .before .before .before .before .before .before .before .before .if1 .left))
+    (miss (table s hs (c .before .before .before .before .before .before .before .if2 .left))
+    (miss (syntax-clear s hs (c .before .before .before .before .before .if3 .left))
+    (miss (size s hs (omega (arith, given-length (c .before .before .before .before))) (omega (arith, given-length (c .before .before .before .before))))
+    (hit (ap not (ne-eqb (crc32 s) 0 (λ q. c .if6 .taken (c .before .crc .ensures ∙ q))))))))) refl
 
--- src/lib.rt:46:8
 shared-slice-read-if7 : tie.Need-shared-slice-read-if7
 shared-slice-read-if7 c = search needs
 
--- src/lib.rt:47:9
 returns-7 : tie.Need-returns-7
-returns-7 c = ?
+unfolding verdict
+returns-7 c =
+    let s = c .before .before .before .before .before .before .before .before .before .before .before .before .before .args .s .now in
+    let hs : AreBytes s = λ i. (c .before .before .before .before .before .before .before .before .before .before .before .before .shared-slice-known .given i) .fits in
+    decide s 6 (miss (le-ltb (length s) 20 (c .before .before .before .before .before .before .before .before .before .before .before .if1 .left))
+    (miss (table s hs (c .before .before .before .before .before .before .before .before .before .if2 .left))
+    (miss (syntax-clear s hs (c .before .before .before .before .before .before .before .if3 .left))
+    (miss (size s hs (omega (arith, given-length (c .before .before .before .before .before .before))) (omega (arith, given-length (c .before .before .before .before .before .before))))
+    (miss (ap (λ (x : ℕ). not (eqb x 0)) (sym (c .before .before .before .crc .ensures) ∙ c .before .before .if6 .left))
+    (hit (other-version s hs (c .if7 .taken)))))))) refl
 
--- src/lib.rt:50:8
 shared-slice-read-if8 : tie.Need-shared-slice-read-if8
 shared-slice-read-if8 c = search needs
 
--- src/lib.rt:51:9
 payload-requires : tie.Need-payload-requires
 payload-requires c κs = search needs
 
--- src/lib.rt:51:9
 returns-8 : tie.Need-returns-8
-returns-8 c = ?
+unfolding verdict
+returns-8 c =
+    let s = c .before .before .before .before .before .before .before .before .before .before .before .before .before .before .before .before .args .s .now in
+    let hs : AreBytes s = λ i. (c .before .before .before .before .before .before .before .before .before .before .before .before .before .before .before .shared-slice-known .given i) .fits in
+    let end : ℕ = length s - 4 in
+    let came = last-row (c .payload .result) end (broken s) (c .payload .ensures .1) (rule s (c .payload .result) (c .before .before .before .before .before .before .before .before .before .before .before .before .before .before .if1 .left) (clear s hs (c .before .if8 .taken)) (c .payload .ensures .0)) in
+    decide s (came .0) (miss (le-ltb (length s) 20 (c .before .before .before .before .before .before .before .before .before .before .before .before .before .before .if1 .left))
+    (miss (table s hs (c .before .before .before .before .before .before .before .before .before .before .before .before .if2 .left))
+    (miss (syntax-clear s hs (c .before .before .before .before .before .before .before .before .before .before .if3 .left))
+    (miss (size s hs (omega (arith, given-length (c .before .before .before .before .before .before .before .before .before))) (omega (arith, given-length (c .before .before .before .before .before .before .before .before .before))))
+    (miss (ap (λ (x : ℕ). not (eqb x 0)) (sym (c .before .before .before .before .before .before .crc .ensures) ∙ c .before .before .before .before .before .if6 .left))
+    (miss (version-0 s hs (c .before .before .before .if7 .left))
+    (miss (ap (λ (t : Bool). t && ltb (length s) 24) (clear s hs (c .before .if8 .taken)))
+    (came .1)))))))) (came .2)
 
--- src/lib.rt:54:9
 returns-9 : tie.Need-returns-9
-returns-9 c = ?
+unfolding verdict
+returns-9 c =
+    let s = c .before .before .before .before .before .before .before .before .before .before .before .before .before .before .before .before .args .s .now in
+    let hs : AreBytes s = λ i. (c .before .before .before .before .before .before .before .before .before .before .before .before .before .before .before .shared-slice-known .given i) .fits in
+    decide s 7 (miss (le-ltb (length s) 20 (c .before .before .before .before .before .before .before .before .before .before .before .before .before .before .if1 .left))
+    (miss (table s hs (c .before .before .before .before .before .before .before .before .before .before .before .before .if2 .left))
+    (miss (syntax-clear s hs (c .before .before .before .before .before .before .before .before .before .before .if3 .left))
+    (miss (size s hs (omega (arith, given-length (c .before .before .before .before .before .before .before .before .before))) (omega (arith, given-length (c .before .before .before .before .before .before .before .before .before))))
+    (miss (ap (λ (x : ℕ). not (eqb x 0)) (sym (c .before .before .before .before .before .before .crc .ensures) ∙ c .before .before .before .before .before .if6 .left))
+    (miss (version-0 s hs (c .before .before .before .if7 .left))
+    (hit (ap₂ (λ (t u : Bool). t && u) (sealed s hs (c .before .if8 .left)) (lt-ltb (length s) 24 (c .if9 .taken)))))))))) refl
 
--- src/lib.rt:23:1
 returns-10 : tie.Need-returns-10
-returns-10 c = ?
+unfolding verdict ruleOf
+returns-10 c =
+    let s = c .before .before .before .before .before .before .before .before .before .before .before .before .before .before .before .before .args .s .now in
+    let hs : AreBytes s = λ i. (c .before .before .before .before .before .before .before .before .before .before .before .before .before .before .before .shared-slice-known .given i) .fits in
+    let came = last-row Accepted 0 (broken s) tt (sealed-rule s (c .before .before .before .before .before .before .before .before .before .before .before .before .before .before .if1 .left) (sealed s hs (c .before .if8 .left))) in
+    decide s (came .0) (miss (le-ltb (length s) 20 (c .before .before .before .before .before .before .before .before .before .before .before .before .before .before .if1 .left))
+    (miss (table s hs (c .before .before .before .before .before .before .before .before .before .before .before .before .if2 .left))
+    (miss (syntax-clear s hs (c .before .before .before .before .before .before .before .before .before .before .if3 .left))
+    (miss (size s hs (omega (arith, given-length (c .before .before .before .before .before .before .before .before .before))) (omega (arith, given-length (c .before .before .before .before .before .before .before .before .before))))
+    (miss (ap (λ (x : ℕ). not (eqb x 0)) (sym (c .before .before .before .before .before .before .crc .ensures) ∙ c .before .before .before .before .before .if6 .left))
+    (miss (version-0 s hs (c .before .before .before .if7 .left))
+    (miss (ap₂ (λ (t u : Bool). t && u) (sealed s hs (c .before .if8 .left)) (le-ltb (length s) 24 (c .if9 .left)))
+    (came .1)))))))) (came .2)
 
 pub accept-spec : {M : Type 1} → statement M
 accept-spec =

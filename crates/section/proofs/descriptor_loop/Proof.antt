@@ -15,10 +15,6 @@ use Rattle.grammar.proofs.Run.{Runs, becomes, pass, short, ruled, framed-all, f
 use borrow.Author.Needs.{needs}
 use Rattle.section.proofs.descriptor_loop.Statement.{statement}
 use Rattle.section.proofs.descriptor_loop.Tie as tie
-use Rattle.section.proofs.descriptor_loop.Reads as reads
-use Rattle.section.proofs.descriptor_loop.Lts as lts
-use Rattle.bits.proofs.read.Reads as read-reads
-use Rattle.section.proofs.fills.Reads as fills-reads
 
 -- the loop's length, as the code reads it
 given-length : (t : tie.After-read) → num (bit (t .before .before .before .args .s .now)) (8 * t .before .before .before .args .at) 16 ≡ t .read .result
@@ -36,59 +32,46 @@ part-end : (t : tie.After-read) →
     ≡ 8 * (t .before .before .before .args .at + 2 + t .read .result)
 part-end t = omega (arith, given-length t)
 
--- src/lib.rt:75:15
 sub-end : tie.Need-sub-end
 sub-end c = search needs
 
--- src/lib.rt:76:8
 sub-if1 : tie.Need-sub-if1
 sub-if1 c = search needs
 
--- src/lib.rt:77:9
 returns : tie.Need-returns
 unfolding descriptor-loop
 returns c = (λ env. ruled (short (omega arith)) refl, omega arith)
 
--- src/lib.rt:79:48
 mul-read : tie.Need-mul-read
 mul-read c = search needs
 
--- src/lib.rt:79:34
 read-requires : tie.Need-read-requires
 read-requires c κs = search needs
 
--- src/lib.rt:80:8
 sub-if2 : tie.Need-sub-if2
 sub-if2 c = search needs
 
--- src/lib.rt:80:8
 sub-if2-2 : tie.Need-sub-if2-2
 sub-if2-2 c = search needs
 
--- src/lib.rt:81:9
 returns-2 : tie.Need-returns-2
 unfolding descriptor-loop
 returns-2 c =
     let t = c .before in
     (λ env. ruled (pass (omega arith) (frame-short (omega (arith, given-length t)))) refl, omega arith)
 
--- src/lib.rt:83:17
 add-fills : tie.Need-add-fills
 add-fills c = search needs
 
--- src/lib.rt:83:25
 add-fills-2 : tie.Need-add-fills-2
 add-fills-2 c = search needs
 
--- src/lib.rt:83:25
 add-fills-3 : tie.Need-add-fills-3
 add-fills-3 c = search needs
 
--- src/lib.rt:83:8
 fills-requires : tie.Need-fills-requires
 fills-requires c κs = search needs
 
--- src/lib.rt:71:1
 returns-3 : tie.Need-returns-3
 unfolding descriptor-loop
 returns-3 c =
@@ -96,31 +79,32 @@ returns-3 c =
     let a = t .before .before .before .args in
     let s = a .s .now in
     let e : ℕ = a .at + 2 + t .read .result in
-    let stuffing : 8 * e + 8 * (length s - 4 - e) ≡ 8 * (length s - 4) = omega arith in
-    (λ env.
-    ruled
-    (pass (omega arith)
-      (framed-all (part-end t) (omega arith)
-        (ruled (at-place (after-length t) (filled-last (c .before .fills .ensures _ ∙ ap (λ (b : Bool). cond b (ends (8 * e)) (breach 0)) (c .if3 .taken)))) (finished refl .runs))
-        (finished refl)))
-    (filled-last (swept-bytes "alignment_stuffing" env (bit s) (8 * (length s - 4)) (length s - 4 - e) (8 * e) stuffing) .runs),
-    tt)
+    let stuffing : 8 * e + 8 * (length s - 4 - e) ≡ 8 * (length s - 4) = omega arith in (
+      λ env.
+          ruled
+          (pass (omega arith)
+          (framed-all (part-end t) (omega arith)
+          (ruled (at-place (after-length t) (filled-last (c .before .fills .ensures _ ∙ ap (λ (b : Bool). cond b (ends (8 * e)) (breach 0)) (c .if3 .taken)))) (finished refl .runs))
+          (finished refl)))
+          (filled-last (swept-bytes "alignment_stuffing" env (bit s) (8 * (length s - 4)) (length s - 4 - e) (8 * e) stuffing) .runs),
+      tt,
+    )
 
--- src/lib.rt:71:1
 returns-4 : tie.Need-returns-4
 unfolding descriptor-loop
 returns-4 c =
     let t = c .before .before .before in
     let a = t .before .before .before .args in
     let s = a .s .now in
-    let e : ℕ = a .at + 2 + t .read .result in
-    (λ env.
-    ruled
-    (pass (omega arith)
-      (framed-off (part-end t) (omega arith)
-        (ruled (at-place (after-length t) (filled-last (c .before .fills .ensures _ ∙ ap (λ (b : Bool). cond b (ends (8 * e)) (breach 0)) (c .if3 .left)))) refl)))
-    refl,
-    omega arith)
+    let e : ℕ = a .at + 2 + t .read .result in (
+      λ env.
+          ruled
+          (pass (omega arith)
+          (framed-off (part-end t) (omega arith)
+          (ruled (at-place (after-length t) (filled-last (c .before .fills .ensures _ ∙ ap (λ (b : Bool). cond b (ends (8 * e)) (breach 0)) (c .if3 .left)))) refl)))
+          refl,
+      omega arith,
+    )
 
 pub descriptor-loop-spec : {M : Type 1} → statement M
 descriptor-loop-spec =

@@ -18,10 +18,6 @@ use Rattle.commands.specs.Command.{known, commandEnd}
 use borrow.Author.Needs.{needs}
 use Rattle.section.proofs.payload.Statement.{statement}
 use Rattle.section.proofs.payload.Tie as tie
-use Rattle.section.proofs.payload.Reads as reads
-use Rattle.section.proofs.payload.Lts as lts
-use Rattle.commands.proofs.command_end.Reads as command-end-reads
-use Rattle.section.proofs.descriptor_loop.Reads as descriptor-loop-reads
 
 -- where the command ends, as its crate answers it
 commanded : (t : tie.After-command-end) →
@@ -34,33 +30,27 @@ commanded t =
     (t .command-end .ensures
     ∙ ap (λ (b : Bool). cond b (breach 0) (run sized-command (known s) (bit s) (8 * (length s - 4)) (8 * 14))) (le-ltb (length s) 20 (omega arith)))
 
--- src/lib.rt:64:25
 command-end-requires : tie.Need-command-end-requires
 command-end-requires c κs = search needs
 
--- src/lib.rt:64:19
 enum-known-at : tie.Need-enum-known-at
 enum-known-at c = search needs
 
--- src/lib.rt:65:33
 enum-told : tie.Need-enum-told
 enum-told c = search needs
 
--- src/lib.rt:65:9
 returns : tie.Need-returns
 unfolding payload known
 returns c =
     let t = c .before .before in
     (pass (omega arith) (ruled (record { runs = commanded t ∙ ap outcome (c .enum-told .given .1) }) refl), omega arith)
 
--- src/lib.rt:67:5
 descriptor-loop-requires : tie.Need-descriptor-loop-requires
 descriptor-loop-requires c κs =
     let t = c .before .before .before in
     let s = t .before .before .args .s .now in
     omega (arith, byte-within sized-command (known s) (bit s) (length s - 4) 14 (c .before .at .given .0 .0) (commanded t ∙ ap outcome (c .before .at .given .1)) (omega arith))
 
--- src/lib.rt:60:1
 returns-2 : tie.Need-returns-2
 unfolding payload known
 returns-2 c =

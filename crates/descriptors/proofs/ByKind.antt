@@ -1,0 +1,73 @@
+-- The kind of a descriptor: what the identifier and the tag say of it, and that its table is read.
+-- Assumes nothing.
+use mathlib.Core.Path.{_≡_, refl, ap, _∙_, subst}
+use mathlib.Core.Bool.{Bool, true, false, cond}
+use mathlib.Core.List.{List}
+use Prim.Native.Nat.{ℕ, _+_, _*_, _<_}
+use native.Mathlib.Omega.{arith}
+use lib.Dec.{eqb}
+use lib.ListN.{getD}
+use borrow.Author.Tests.{eq-eqb, ne-eqb}
+use Rattle.bits.specs.Bits.{bit, num}
+use Rattle.grammar.specs.Syntax.{Test, Prog, is, done, branch}
+use Rattle.grammar.specs.Meaning.{Env, valueOf, holds, Outcome}
+use Rattle.grammar.specs.Tables.{bytes, known-descriptor}
+use Rattle.grammar.proofs.Run.{Runs, yes-last, no-last}
+use Rattle.grammar.proofs.Places.{octet}
+use Rattle.descriptors.specs.declared.Kind.{Kind}
+use Rattle.descriptors.specs.declared.Kind.the-variants.{Avail, Dtmf, Segmentation, Time, Audio, Unknown}
+use Rattle.descriptors.specs.Walk.{byTag, kindOf, tableOf}
+
+-- ---- what it is
+
+-- under "CUEI" the tag says it
+pub own : (s : List ℕ) (at tag : ℕ) → num (bit s) (8 * (at + 2)) 32 ≡ 0x43554549 → getD s at 0 < 256 → getD s at 0 ≡ tag → kindOf s at ≡ byTag tag
+unfolding kindOf
+own s at tag same byte e =
+    ap (λ (t : Bool). cond t (byTag (num (bit s) (8 * at) 8)) Unknown) (eq-eqb _ 0x43554549 same)
+    ∙ ap byTag (octet s at (8 * at) byte refl ∙ e)
+
+pub foreign : (s : List ℕ) (at : ℕ) → (num (bit s) (8 * (at + 2)) 32 ≡ 0x43554549 → ⊥) → kindOf s at ≡ Unknown
+unfolding kindOf
+foreign s at other = ap (λ (t : Bool). cond t (byTag (num (bit s) (8 * at) 8)) Unknown) (ne-eqb _ 0x43554549 other)
+
+pub no-tag : (t : ℕ) → 4 < t → byTag t ≡ Unknown
+unfolding byTag
+no-tag t h =
+    rw (
+      ne-eqb t 0 (λ e. omega arith),
+      ne-eqb t 1 (λ e. omega arith),
+      ne-eqb t 2 (λ e. omega arith),
+      ne-eqb t 3 (λ e. omega arith),
+      ne-eqb t 4 (λ e. omega arith),
+    )
+
+-- ---- its table
+
+-- a branch between two kinds runs as the kind's table where the two arms do
+choose : {test : Test} {p q : Prog} {env : Env} {f : ℕ → ℕ} {end k : ℕ} {o : Outcome} (t : Bool) (a b : Kind) → holds test env end k ≡ t
+    → (Runs (tableOf a) env f end k o → Runs p env f end k o) → (Runs (tableOf b) env f end k o → Runs q env f end k o)
+    → Runs (tableOf (cond t a b)) env f end k o → Runs (branch test p q done) env f end k o
+choose true a b e first second r = yes-last e (first r)
+choose false a b e first second r = no-last e (second r)
+
+by-tag : {env : Env} {f : ℕ → ℕ} {end k : ℕ} {o : Outcome} (t : ℕ) → valueOf env "splice_descriptor_tag" ≡ t
+    → Runs (tableOf (byTag t)) env f end k o → Runs (known-descriptor (bytes "private_byte")) env f end k o
+unfolding byTag tableOf known-descriptor
+by-tag {env} {f} {end} {k} {o} t e =
+    let is-it : (v : ℕ) → eqb (valueOf env "splice_descriptor_tag") v ≡ eqb t v = λ v. ap (λ (x : ℕ). eqb x v) e in
+    choose (eqb t 0) Avail _ (is-it 0) (λ r. r)
+    (choose (eqb t 1) Dtmf _ (is-it 1) (λ r. r)
+    (choose (eqb t 2) Segmentation _ (is-it 2) (λ r. r)
+    (choose (eqb t 3) Time _ (is-it 3) (λ r. r)
+    (choose (eqb t 4) Audio Unknown (is-it 4) (λ r. r) (λ r. r)))))
+
+-- Table 17 after the identifier: the table of the descriptor's kind
+pub by-kind : {env : Env} {f : ℕ → ℕ} {end k : ℕ} {o : Outcome} {kind : Kind} (s : List ℕ) (at : ℕ)
+    → valueOf env "identifier" ≡ num (bit s) (8 * (at + 2)) 32 → valueOf env "splice_descriptor_tag" ≡ num (bit s) (8 * at) 8
+    → kind ≡ kindOf s at → Runs (tableOf kind) env f end k o
+    → Runs (branch (is "identifier" 0x43554549) (known-descriptor (bytes "private_byte")) (bytes "private_byte") done) env f end k o
+unfolding kindOf tableOf
+by-kind {env} {f} {end} {k} {o} s at same tag e r =
+    choose (eqb (num (bit s) (8 * (at + 2)) 32) 0x43554549) (byTag (num (bit s) (8 * at) 8)) Unknown (ap (λ (x : ℕ). eqb x 0x43554549) same)
+    (by-tag (num (bit s) (8 * at) 8) tag) (λ q. q) (subst (λ (x : Kind). Runs (tableOf x) env f end k o) e r)
