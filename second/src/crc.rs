@@ -19,15 +19,12 @@ pub fn crc32(bytes: &[u8]) -> u32 {
     }
 
     // Wherever a one stands in front, take the divisor away from there.
-    let divisor: Vec<bool> = (0..33)
-        .rev()
-        .map(|place| DIVISOR >> place & 1 == 1)
-        .collect();
+    let divisor: [bool; 33] = std::array::from_fn(|place| DIVISOR >> (32 - place) & 1 == 1);
     for front in 0..message_bits {
-        if dividend[front] {
-            for (place, bit) in divisor.iter().enumerate() {
-                dividend[front + place] ^= bit;
-            }
+        let is_one = dividend[front];
+        let below = &mut dividend[front..front + 33];
+        for (bit, taken) in below.iter_mut().zip(divisor) {
+            *bit ^= taken & is_one;
         }
     }
 

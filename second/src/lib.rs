@@ -6,5 +6,7 @@ pub mod bits;
 pub mod crc;
 pub mod hex;
 pub mod refusal;
+pub mod section;
+pub mod sheet;
 pub mod text;
 pub mod units;

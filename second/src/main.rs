@@ -2,11 +2,15 @@
 //! Exit status 0 for an answer, 1 for a refusal, 2 for bad usage.
 #![forbid(unsafe_code)]
 
-use second::{bits, crc, hex, refusal, text, units};
+use second::{bits, crc, hex, refusal, section, sheet, text, units};
 use std::process::ExitCode;
 
 const USAGE: &str = "\
-usage: second to-section TEXT [ROOM]           the bytes of a base64 text
+usage: second accept HEX                       whether a section is accepted, and its fields
+       second accept-text TEXT                 the same, the section given as base64 text
+       second sheet HEX                        the field sheet of a section
+       second unsheet N N N ..                 the section of a field sheet
+       second to-section TEXT [ROOM]           the bytes of a base64 text
        second to-section-hex HEX [ROOM]        the same, the text given as hex bytes
        second to-text HEX [ROOM]               the base64 text of a section
        second crc HEX                          the CRC of the bytes
@@ -25,8 +29,8 @@ fn main() -> ExitCode {
     let given: Vec<_> = std::env::args_os().skip(1).collect();
     let words: Vec<&[u8]> = given.iter().map(|word| word.as_encoded_bytes()).collect();
     match answer(&words) {
-        Ok(line) => {
-            println!("{line}");
+        Ok(answer) => {
+            println!("{answer}");
             ExitCode::SUCCESS
         }
         Err(Failure::Refusal(number)) => {
@@ -40,9 +44,13 @@ fn main() -> ExitCode {
     }
 }
 
-/// The line that answers a question.
+/// What answers a question: a line, or for a section a line for each of its fields.
 fn answer(words: &[&[u8]]) -> Result<String, Failure> {
     match words {
+        [b"accept", section] => accept(&bytes(section)?),
+        [b"accept-text", text] => accept(&read_text(text, usize::MAX)?),
+        [b"sheet", section] => sheet(&bytes(section)?),
+        [b"unsheet", numbers @ ..] => unsheet(numbers),
         [b"to-section", text, room @ ..] => to_section(text, room),
         [b"to-section-hex", text, room @ ..] => to_section(&bytes(text)?, room),
         [b"to-text", section, room @ ..] => to_text(&bytes(section)?, room),
@@ -64,9 +72,35 @@ fn answer(words: &[&[u8]]) -> Result<String, Failure> {
     }
 }
 
-fn to_section(text: &[u8], room: &[&[u8]]) -> Result<String, Failure> {
-    let section = text::text_to_section(text, room_or_plenty(room)?).map_err(Failure::Refusal)?;
+fn accept(bytes: &[u8]) -> Result<String, Failure> {
+    let accepted = section::accept(bytes).map_err(Failure::Refusal)?;
+    let listing = section::listing(&accepted);
+    Ok(format!("accepted\n{}", listing.trim_end()))
+}
+
+fn sheet(bytes: &[u8]) -> Result<String, Failure> {
+    let sheet = sheet::sheet_of(bytes).map_err(Failure::Refusal)?;
+    let numbers: Vec<String> = sheet.iter().map(u64::to_string).collect();
+    Ok(numbers.join(" "))
+}
+
+/// The numbers may have commas behind them, as 01 prints them.
+fn unsheet(words: &[&[u8]]) -> Result<String, Failure> {
+    let numbers = words
+        .iter()
+        .map(|word| number(word.strip_suffix(b",").unwrap_or(word)));
+    let sheet: Vec<u64> = numbers.collect::<Result<_, _>>()?;
+    let section = sheet::section_of(&sheet).map_err(Failure::Refusal)?;
     Ok(hex::to_hex(&section))
+}
+
+fn to_section(text: &[u8], room: &[&[u8]]) -> Result<String, Failure> {
+    let section = read_text(text, room_or_plenty(room)?)?;
+    Ok(hex::to_hex(&section))
+}
+
+fn read_text(text: &[u8], room: usize) -> Result<Vec<u8>, Failure> {
+    text::text_to_section(text, room).map_err(Failure::Refusal)
 }
 
 fn to_text(section: &[u8], room: &[&[u8]]) -> Result<String, Failure> {

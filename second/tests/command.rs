@@ -14,11 +14,11 @@ fn run(words: &[&str]) -> Output {
         .expect("the command starts")
 }
 
-/// The status and the line on standard output.
+/// The status and what is on standard output.
 fn said(words: &[&str]) -> (i32, String) {
     let output = run(words);
-    let line = String::from_utf8(output.stdout).expect("plain text");
-    (output.status.code().expect("a status"), line)
+    let text = String::from_utf8(output.stdout).expect("plain text");
+    (output.status.code().expect("a status"), text)
 }
 
 fn answers(words: &[&str], line: &str) {
@@ -34,6 +34,53 @@ fn text_and_section_of_004() {
     answers(&["to-section", TEXT_OF_004], SECTION_OF_004);
     answers(&["to-text", SECTION_OF_004], TEXT_OF_004);
     answers(&["crc", SECTION_OF_004], "0x00000000");
+}
+
+#[test]
+fn an_accepted_section_is_listed() {
+    let by_text = said(&["accept-text", TEXT_OF_004]);
+    assert_eq!(by_text, said(&["accept", SECTION_OF_004]));
+    let (status, listing) = by_text;
+    assert_eq!(status, 0);
+    let lines: Vec<&str> = listing.lines().collect();
+    assert_eq!(lines[..2], ["accepted", "table_id: 252 (0xfc)"]);
+    assert!(lines.contains(&"    pts_time: 3150057 (0x3010e9)"));
+    assert!(lines.contains(&"  segmentation_duration: 18132042 (0x114ac4a)"));
+    assert!(lines.contains(&"  segmentation_upid: 0000000020fb6501"));
+    assert_eq!(lines.last(), Some(&"CRC_32: 922414497 (0x36faeda1)"));
+}
+
+#[test]
+fn a_section_that_is_not_accepted() {
+    refuses(&["accept", ""], "R 1 SHORT");
+    refuses(&["accept", &"00".repeat(20)], "R 2 TABLE");
+    refuses(&["accept", &SECTION_OF_004[..108]], "R 4 SIZE");
+    refuses(
+        &["accept", &SECTION_OF_004.replace("3010e9", "3010e8")],
+        "R 5 CRC",
+    );
+    refuses(&["accept-text", ""], "R 1 SHORT");
+    refuses(&["accept-text", "AAA"], "R 12 TEXTLEN");
+    refuses(&["accept-text", "AA=A"], "R 13 TEXTCHAR");
+    refuses(&["accept-text", "AB=="], "R 14 TEXTBITS");
+}
+
+#[test]
+fn sheet_of_004() {
+    let sheet = "252 0 0 3 0 0 0 0 0 0 5 6 1 63 3150057 30 2 28 1129661769 1073741883 0 127 1 1 0 \
+                 0 1 1 3 18132042 8 8 0 0 0 0 32 251 101 1 52 0 0";
+    answers(&["sheet", SECTION_OF_004], sheet);
+    let mut words = vec!["unsheet"];
+    words.extend(sheet.split(' '));
+    answers(&words, SECTION_OF_004);
+    let with_commas = sheet.replace(' ', ", ");
+    words.truncate(1);
+    words.extend(with_commas.split(' '));
+    answers(&words, SECTION_OF_004);
+    words.pop();
+    refuses(&words, "R 15 SHEET");
+    refuses(&["unsheet"], "R 15 SHEET");
+    refuses(&["sheet", &SECTION_OF_004[..108]], "R 4 SIZE");
 }
 
 #[test]
@@ -63,9 +110,15 @@ fn refusals_carry_number_and_name() {
 
 #[test]
 fn bad_usage_is_told_on_standard_error() {
-    let cases: [&[&str]; 9] = [
+    let cases: [&[&str]; 15] = [
         &[],
         &["sing"],
+        &["accept"],
+        &["accept", "fc3"],
+        &["accept-text"],
+        &["sheet"],
+        &["unsheet", "252", "x"],
+        &["unsheet", "18446744073709551616"],
         &["to-section"],
         &["to-section", "AAAA", "3", "3"],
         &["to-text", "f"],

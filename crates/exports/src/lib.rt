@@ -4,9 +4,50 @@ ghost use mathlib.Core.Path.{_≡_};
 ghost use Prim.Native.Nat.{_<_, _^_};
 ghost use Rattle.bits.specs.Bits.{fieldOf, writable, writtenOf};
 ghost use Rattle.units.specs.Clock.{ticks, millisOf, clockSum};
-ghost use Rattle.exports.specs.Wire.{wire};
+ghost use Rattle.crc.specs.Crc.{crc32};
+ghost use Rattle.text.specs.Text;
+ghost use Rattle.text.specs.Text.{readInto, writeInto};
+ghost use Rattle.section.specs.Accept.{acceptOf};
+ghost use Rattle.exports.specs.Wire.{wire, rowNumber};
+use section::Verdict;
 use units::Ticks;
 use units::Written;
+
+// The CRC-32 (ISO/IEC 13818-1) of the bytes.
+#[no_mangle]
+pub extern "C" fn timpanimist_crc32(bytes: &[u8]) -> u32
+    ensures { λ r. ⌜ r ≡ crc32 (now (bytes .entry)) ⌝ }
+{
+    crc::crc(bytes)
+}
+
+// The bytes of a base64 text, written to the front of out.
+#[no_mangle]
+pub extern "C" fn timpanimist_text_to_section(text: &[u8], out: &mut [u8]) -> u64
+    ensures { λ r. ⌜ (r ≡ wire (Text.read (now (text .entry)) (now (out .entry)))) × (now (out .exit) ≡ readInto (now (text .entry)) (now (out .entry))) ⌝ }
+{
+    number(text::to_section(text, out))
+}
+
+// The base64 text of a section's bytes, written to the front of out.
+#[no_mangle]
+pub extern "C" fn timpanimist_section_to_text(section: &[u8], out: &mut [u8]) -> u64
+    ensures { λ r. ⌜ (r ≡ wire (Text.write (now (section .entry)) (now (out .entry)))) × (now (out .exit) ≡ writeInto (now (section .entry)) (now (out .entry))) ⌝ }
+{
+    number(text::to_text(section, out))
+}
+
+// 0 where the bytes are a section, or else the number of the first row that refuses them, 1 to 10.
+#[no_mangle]
+pub extern "C" fn timpanimist_accept(section: &[u8]) -> u32
+    ensures { λ r. ⌜ r ≡ rowNumber (acceptOf (now (section .entry))) ⌝ }
+{
+    let verdict = section::accept(section);
+    match verdict {
+        Verdict::Accepted => 0,
+        Verdict::Refused(refusal) => refusal.number() as u32,
+    }
+}
 
 // The whole milliseconds in t ticks of the 90 kHz clock.
 #[no_mangle]

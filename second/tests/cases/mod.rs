@@ -1,5 +1,6 @@
 //! The questions put to both programs, a file for each group.
 
+mod accept;
 mod crc;
 mod fields;
 mod published;

@@ -6,7 +6,7 @@ use second::refusal::TEXTLEN;
 const PLENTY: usize = 6000;
 
 /// Sections that came through whole: their CRC is right.
-const WHOLE: [&str; 5] = [
+pub const WHOLE: [&str; 5] = [
     // 004
     "/DA0AAAAAAAAAAAABQb+ADAQ6QAeAhxDVUVJQAAAO3/PAAEUrEoICAAAAAAg+2UBNAAANvrtoQ==",
     // 003, the first text, its lost `+` restored
@@ -18,7 +18,7 @@ const WHOLE: [&str; 5] = [
 ];
 
 /// Good base64, but what it holds is not a section with a right CRC.
-const DAMAGED: [&str; 5] = [
+pub const DAMAGED: [&str; 5] = [
     // 000
     "/DAgAAAAAAAAAAP/wDwUAAAL4f//+ABoXsMAAAAAAAAAAPF20V0=",
     // 002

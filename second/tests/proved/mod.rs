@@ -4,6 +4,7 @@
 #[link(name = "timpanimist", kind = "static")]
 extern "C" {
     fn timpanimist_crc32(bytes: *const u8, len: usize) -> u32;
+    fn timpanimist_accept(section: *const u8, len: usize) -> u32;
     fn timpanimist_text_to_section(
         text: *const u8,
         text_len: usize,
@@ -36,6 +37,11 @@ pub const REFUSED: u64 = 1 << 63;
 
 pub fn crc32(bytes: &mut [u8]) -> u32 {
     unsafe { timpanimist_crc32(bytes.as_mut_ptr(), bytes.len()) }
+}
+
+/// 0 for accepted, otherwise the number of the refusal.
+pub fn accept(section: &mut [u8]) -> u32 {
+    unsafe { timpanimist_accept(section.as_mut_ptr(), section.len()) }
 }
 
 pub fn text_to_section(text: &mut [u8], out: &mut [u8]) -> u64 {

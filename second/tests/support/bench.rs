@@ -3,21 +3,40 @@
 
 use super::lent::Lent;
 use super::random::{seed, Random};
-use super::report::{pasted_text, same_answer, same_memory, CrcAnswer, TextAnswer};
+use super::report::{pasted_text, same_answer, same_memory, AcceptAnswer, CrcAnswer, TextAnswer};
+use super::tally::Tally;
 use crate::proved;
 use second::hex::to_hex;
-use second::{bits, crc, text, units};
+use second::{bits, crc, section, text, units};
 
 pub struct Bench {
     pub random: Random,
+    /// How often each answer to the question of acceptance was given.
+    pub tally: Tally,
 }
 
 impl Bench {
     /// A bench with the random numbers of this run's seed, which it prints.
     pub fn new() -> Bench {
         println!("seed {:#018x}", seed());
-        let random = Random::new(seed());
-        Bench { random }
+        Bench {
+            random: Random::new(seed()),
+            tally: Tally::default(),
+        }
+    }
+
+    /// Whether a section is accepted: 0, or the number of the row that refuses it.
+    pub fn accept(&mut self, section: &[u8]) -> u8 {
+        let before = Lent::holding(&mut self.random, section);
+        let mut after = before.clone();
+        let row = section::accept(section).err().unwrap_or(0);
+        let second = AcceptAnswer(u32::from(row));
+        let proved = AcceptAnswer(proved::accept(after.part()));
+        let paste = || format!("second accept '{}'", to_hex(section));
+        same_answer("accept", &second, &proved, paste);
+        same_memory("accept", second, "section", &before, &after, paste);
+        self.tally.count(row);
+        row
     }
 
     /// A text is read into `room` bytes.

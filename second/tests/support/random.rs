@@ -33,6 +33,21 @@ impl Random {
         self.number() >> dropped
     }
 
+    /// True once in so many times.
+    pub fn once_in(&mut self, times: usize) -> bool {
+        self.within(1..=times) == 1
+    }
+
+    /// A number for a field of this width: all zeros and all ones come more often than others.
+    pub fn field(&mut self, width: usize) -> u64 {
+        let ones = u64::MAX >> (64 - width);
+        match self.within(0..=9) {
+            0 => 0,
+            1 => ones,
+            _ => self.number() & ones,
+        }
+    }
+
     /// One of the things listed.
     pub fn one_of<T: Copy>(&mut self, list: &[T]) -> T {
         list[self.within(0..=list.len() - 1)]

@@ -72,6 +72,20 @@ impl Display for TextAnswer {
     }
 }
 
+/// An answer of the acceptance: 0 for accepted, otherwise the number of the refusal.
+#[derive(Clone, Copy, PartialEq, Eq)]
+pub struct AcceptAnswer(pub u32);
+
+impl Display for AcceptAnswer {
+    fn fmt(&self, to: &mut Formatter) -> fmt::Result {
+        match u8::try_from(self.0) {
+            Ok(0) => write!(to, "accepted"),
+            Ok(refused) => write!(to, "{}", refusal::shown(refused)),
+            Err(_) => write!(to, "{:#x}", self.0),
+        }
+    }
+}
+
 /// A CRC, shown as the command shows it.
 #[derive(Clone, Copy, PartialEq, Eq)]
 pub struct CrcAnswer(pub u32);

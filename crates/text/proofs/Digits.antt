@@ -1,0 +1,72 @@
+-- The bits of a number make that number, and the bits of a row of digits, each of u bits, make its digits;
+-- each bit comes back out of the number that a field makes, and zeros alone make 0.
+-- Assumes nothing.
+use mathlib.Core.Path.{_≡_, sym, ap, _∙_}
+use mathlib.Core.Logic.{⊎-elim}
+use Prim.Native.Nat.{ℕ, zero, suc, _+_, _-_, _*_, _/_, _%_, _^_, _<_, _≤_}
+use native.Mathlib.Nat.{sub-self, add-zero, le-of-suc-le-suc, eq-or-lt-of-le}
+use native.Mathlib.Numerals.{add-one}
+use native.Mathlib.Omega.{arith}
+use lib.Pow.{mod-pow-add, shr-shr}
+use Rattle.bits.specs.Bits.{num}
+use Rattle.bits.proofs.Num.{Bits, num-zero, num-suc, num-split, num-part}
+
+module _ (f : ℕ → ℕ) (k v w : ℕ) (each : (j : ℕ) → j < w → f (k + j) ≡ v / 2 ^ (w - (j + 1)) % 2) where
+  -- the first a of the w bits make the number without its last w - a bits
+  front : (a : ℕ) → a ≤ w → num f k a ≡ v / 2 ^ (w - a) % 2 ^ a
+  front zero h = rw num-zero (omega arith)
+  front (suc a) h =
+      let half : v / 2 ^ (w - a) ≡ v / 2 ^ (w - suc a) / 2 =
+      ap (λ (e : ℕ). v / 2 ^ e) (omega arith) ∙ sym (shr-shr v (w - suc a) 1) in
+      let last : f (k + a) ≡ v / 2 ^ (w - suc a) % 2 = each a h ∙ ap (λ (e : ℕ). v / 2 ^ e % 2) (omega arith) in
+      num-suc f k a
+      ∙ rw (front a (omega arith), half, last, ← (add-one a)) (sym (mod-pow-add (v / 2 ^ (w - (a + 1))) a 1))
+
+  pub digits : num f k w ≡ v % 2 ^ w
+  digits =
+      front w (omega arith)
+      ∙ ap (λ (e : ℕ). v / 2 ^ e % 2 ^ w) (sub-self w)
+      ∙ ap (λ (x : ℕ). x % 2 ^ w) (omega arith)
+
+-- a field that lies at place p, cut out of a wider one from place k on, with a bits before it and c after it
+pub cut : (f : ℕ → ℕ) → Bits f → (k a b c p : ℕ) → p ≡ k + a → num f k (a + b + c) / 2 ^ c % 2 ^ b ≡ num f p b
+cut f h k a b c p e = num-part f h k a b c ∙ ap (λ (q : ℕ). num f q b) (sym e)
+
+module _ (u : ℕ) (f d : ℕ → ℕ) (each : (n j : ℕ) → j < u → f (u * n + j) ≡ d n / 2 ^ (u - (j + 1)) % 2) where
+  -- the last b bits of digit n
+  pub digit-end : (n a b : ℕ) → a + b ≡ u → num f (u * n + a) b ≡ d n % 2 ^ b
+  digit-end n a b e =
+      digits f (u * n + a) (d n) b
+      (λ j h.
+      ap f (omega arith) ∙ each n (a + j) (omega arith) ∙ ap (λ (x : ℕ). d n / 2 ^ x % 2) (omega arith))
+
+  pub digit-whole : (n : ℕ) → num f (u * n) u ≡ d n % 2 ^ u
+  digit-whole n = ap (λ (k : ℕ). num f k u) (omega arith) ∙ digit-end n 0 u (omega arith)
+
+  -- the digits n up to n + m, and one more
+  pub digit-more : (n m : ℕ) → num f (u * n) (u * m + u) ≡ num f (u * n) (u * m) * 2 ^ u + d (n + m) % 2 ^ u
+  digit-more n m =
+      num-split f (u * n) (u * m) u
+      ∙ ap (λ (x : ℕ). num f (u * n) (u * m) * 2 ^ u + x)
+      (ap (λ (k : ℕ). num f k u) (omega arith) ∙ digit-whole (n + m))
+
+-- one bit of the number that a field makes
+pub bit-of : (f : ℕ → ℕ) → Bits f → (k w j : ℕ) → j < w → num f k w / 2 ^ (w - (j + 1)) % 2 ≡ f (k + j)
+bit-of f h k w j l =
+    let c = w - (j + 1) in
+    ap (λ (x : ℕ). num f k x / 2 ^ c % 2) (omega arith)
+    ∙ num-part f h k j 1 c
+    ∙ num-suc f (k + j) 0
+    ∙ rw (num-zero, add-zero) (omega arith)
+
+-- bits that are all 0 make 0, and only they do
+pub zeros : (f : ℕ → ℕ) (k w : ℕ) → ((j : ℕ) → j < w → f (k + j) ≡ 0) → num f k w ≡ 0
+zeros f k zero h = num-zero f k
+zeros f k (suc w) h = rw (num-suc, zeros f k w (λ j l. h j (omega arith)), h w (omega arith))
+
+pub zero-each : (f : ℕ → ℕ) (k w : ℕ) → num f k w ≡ 0 → (j : ℕ) → j < w → f (k + j) ≡ 0
+zero-each f k (suc w) e j l =
+    let sum : num f k w * 2 + f (k + w) ≡ 0 = sym (num-suc f k w) ∙ e in
+    ⊎-elim (λ q. ap (λ (x : ℕ). f (k + x)) q ∙ omega arith) (λ m. zero-each f k w (omega arith) j m)
+    (eq-or-lt-of-le (le-of-suc-le-suc l))
+zero-each f k zero e j l = absurd (omega arith)

@@ -1,0 +1,14 @@
+pub mod AllOf
+pub mod Alphabet
+pub mod Counts
+pub mod Decoded
+pub mod Digits
+pub mod Encoded
+pub mod Fill
+pub mod Padding
+pub mod RoundTrip
+pub mod Rows
+pub mod Spare
+pub mod TextBits
+pub mod Truth
+pub mod Vectors

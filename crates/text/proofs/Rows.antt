@@ -1,0 +1,91 @@
+-- The row that applies to a text, and to bytes, from the facts that settle it; and what a text that no row refuses is known to be.
+-- Assumes nothing.
+use mathlib.Core.Path.{_≡_, refl, sym, ap}
+use mathlib.Core.Bool.{Bool, true, false, cond, not, _||_, or-true}
+use mathlib.Core.List.{List}
+use Prim.Native.Nat.{ℕ, suc, _%_, _<_, _≤_}
+use native.Mathlib.Omega.{arith}
+use lib.Dec.{eqb, ltb}
+use lib.ListN.{length, take}
+use borrow.Author.Tests.{lt-ltb, le-ltb, eq-eqb, ne-eqb, ltb-false, eqb-true, not-false}
+use Rattle.units.specs.Answers.{answer, memory}
+use Rattle.text.proofs.Truth.{neither}
+use Rattle.text.specs.Text.{before, count, decoded, allOf, spare, readRow, read, readInto, textLength, encoded, writeRow, write, writeInto}
+
+-- the row that applies settles the answer and the lent memory
+pub reads-as : (t out : List ℕ) (row : ℕ) → readRow t (length out) ≡ row
+    → (answer row (count t) ≡ read t out) × (memory row (decoded t) out ≡ readInto t out)
+unfolding read readInto
+reads-as t out row e = (ap (λ (r : ℕ). answer r (count t)) (sym e), ap (λ (r : ℕ). memory r (decoded t) out) (sym e))
+
+pub writes-as : (s out : List ℕ) (row : ℕ) → writeRow s (length out) ≡ row
+    → (answer row (textLength s) ≡ write s out) × (memory row (encoded s) out ≡ writeInto s out)
+unfolding write writeInto
+writes-as s out row e = (ap (λ (r : ℕ). answer r (textLength s)) (sym e), ap (λ (r : ℕ). memory r (encoded s) out) (sym e))
+
+-- a text that rows 12, 13 and 14 let pass
+pub record Accepted (t : List ℕ) : Type 0 where
+  pub whole : length t % 4 ≡ 0
+  pub short : length t ≤ 5464
+  pub letters : allOf (take (before t) t) ≡ true
+  pub clean : spare t ≡ 0
+
+module _ (t : List ℕ) (room : ℕ) where
+  pub row-uneven : (length t % 4 ≡ 0 → ⊥) → readRow t room ≡ 12
+  unfolding readRow
+  row-uneven h = rw (ne-eqb (length t % 4) 0 h)
+
+  pub row-long : 5464 < length t → readRow t room ≡ 12
+  unfolding readRow
+  row-long h = rw (lt-ltb 5464 (length t) h, or-true)
+
+  pub row-letter : length t % 4 ≡ 0 → length t ≤ 5464 → allOf (take (before t) t) ≡ false → readRow t room ≡ 13
+  unfolding readRow
+  row-letter w s l = rw (eq-eqb (length t % 4) 0 w, le-ltb 5464 (length t) s, l)
+
+  pub row-spare : length t % 4 ≡ 0 → length t ≤ 5464 → allOf (take (before t) t) ≡ true → (spare t ≡ 0 → ⊥)
+      → readRow t room ≡ 14
+  unfolding readRow
+  row-spare w s l b = rw (eq-eqb (length t % 4) 0 w, le-ltb 5464 (length t) s, l, ne-eqb (spare t) 0 b)
+
+  pub row-room : Accepted t → room < count t → readRow t room ≡ 11
+  unfolding readRow
+  row-room a h =
+      rw (eq-eqb (length t % 4) 0 (a .whole), le-ltb 5464 (length t) (a .short), a .letters, eq-eqb (spare t) 0 (a .clean), lt-ltb room (count t) h)
+
+  pub row-none : Accepted t → count t ≤ room → readRow t room ≡ 0
+  unfolding readRow
+  row-none a h =
+      rw (eq-eqb (length t % 4) 0 (a .whole), le-ltb 5464 (length t) (a .short), a .letters, eq-eqb (spare t) 0 (a .clean), le-ltb room (count t) h)
+
+module _ (s : List ℕ) (room : ℕ) where
+  pub row-size : 4096 < length s → writeRow s room ≡ 4
+  unfolding writeRow
+  row-size h = rw (lt-ltb 4096 (length s) h)
+
+  pub row-no-room : length s ≤ 4096 → room < textLength s → writeRow s room ≡ 11
+  unfolding writeRow
+  row-no-room l h = rw (le-ltb 4096 (length s) l, lt-ltb room (textLength s) h)
+
+  pub row-written : length s ≤ 4096 → textLength s ≤ room → writeRow s room ≡ 0
+  unfolding writeRow
+  row-written l h = rw (le-ltb 4096 (length s) l, le-ltb room (textLength s) h)
+
+passed : (b : Bool) (row rest : ℕ) → cond b (suc row) rest ≡ 0 → (b ≡ false) × (rest ≡ 0)
+passed true row rest e = absurd (omega arith)
+passed false row rest e = (refl, e)
+
+-- a text that is not refused is accepted
+pub accepted : (t : List ℕ) (room : ℕ) → readRow t room ≡ 0 → Accepted t
+unfolding readRow
+accepted t room e =
+    let length-row = passed (not (eqb (length t % 4) 0) || ltb 5464 (length t)) 11 _ e in
+    let letter-row = passed (not (allOf (take (before t) t))) 12 _ (length-row .1) in
+    let spare-row = passed (not (eqb (spare t) 0)) 13 _ (letter-row .1) in
+    let lengths = neither (not (eqb (length t % 4) 0)) (ltb 5464 (length t)) (length-row .0) in
+    record {
+      whole = eqb-true _ _ (not-false _ (lengths .0));
+      short = ltb-false _ _ (lengths .1);
+      letters = not-false _ (letter-row .0);
+      clean = eqb-true _ _ (not-false _ (spare-row .0));
+    }

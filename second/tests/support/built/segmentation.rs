@@ -1,0 +1,92 @@
+//! Random segmentation descriptors, each choice open to be made by hand.
+
+use super::descriptor::Descriptor;
+use super::writer::Writer;
+use super::{Random, Size};
+
+/// The types that may carry the two sub-segment bytes.
+pub const SUB_SEGMENT_TYPES: [u8; 8] = [0x30, 0x32, 0x34, 0x36, 0x38, 0x3A, 0x44, 0x46];
+
+/// The most bytes of a body behind its identifier.
+const ROOM: usize = 251;
+
+/// What there is in the descriptor; all else in it is drawn.
+#[derive(Clone)]
+pub struct Segmentation {
+    pub cancelled: bool,
+    /// In program mode none.
+    pub components: Option<usize>,
+    pub duration: bool,
+    pub upid: usize,
+    pub type_id: u8,
+    /// Bytes behind segments_expected.
+    pub behind: usize,
+}
+
+impl Segmentation {
+    pub fn any(random: &mut Random, size: Size) -> Segmentation {
+        let mut chosen = Segmentation {
+            cancelled: random.once_in(6),
+            components: None,
+            duration: random.once_in(2),
+            upid: 0,
+            type_id: random.number() as u8,
+            behind: 0,
+        };
+        if random.once_in(3) {
+            chosen.components = Some(size.count(random).min(38));
+        }
+        if random.once_in(2) {
+            chosen.type_id = random.one_of(&SUB_SEGMENT_TYPES);
+        }
+        if SUB_SEGMENT_TYPES.contains(&chosen.type_id) && random.once_in(2) {
+            chosen.behind = 2;
+        }
+        let some = size.count(random);
+        let upid = random.one_of(&[0, 4, 8, 12, some]);
+        chosen.upid = upid.min(chosen.most_upid());
+        chosen
+    }
+
+    /// The longest UPID that there is room for.
+    pub fn most_upid(&self) -> usize {
+        let components = self.components.map_or(0, |count| 1 + 6 * count);
+        let duration = if self.duration { 5 } else { 0 };
+        ROOM - (4 + 1 + 1 + components + duration + 2 + 3 + self.behind)
+    }
+
+    pub fn descriptor(&self, random: &mut Random) -> Writer {
+        let mut body = Writer::default();
+        body.put(32, random.field(32));
+        body.put(1, u64::from(self.cancelled));
+        body.put(7, random.field(7));
+        if !self.cancelled {
+            self.segment(random, &mut body);
+        }
+        Descriptor::known(2, body)
+    }
+
+    fn segment(&self, random: &mut Random, body: &mut Writer) {
+        body.put(1, u64::from(self.components.is_none()));
+        body.put(1, u64::from(self.duration));
+        body.put(6, random.field(6));
+        if let Some(count) = self.components {
+            body.marked("component_count", 8, count as u64);
+            for _ in 0..count {
+                body.put(8, random.field(8));
+                body.put(7, random.field(7));
+                body.put(33, random.field(33));
+            }
+        }
+        if self.duration {
+            body.put(40, random.field(40));
+        }
+        body.put(8, random.field(8));
+        body.marked("segmentation_upid_length", 8, self.upid as u64);
+        body.bytes(&random.bytes(self.upid));
+        body.marked("segmentation_type_id", 8, u64::from(self.type_id));
+        body.put(8, random.field(8));
+        body.put(8, random.field(8));
+        body.bytes(&random.bytes(self.behind));
+    }
+}
