@@ -13,7 +13,7 @@ use Rattle.bits.specs.Bits.{bit, num}
 use Rattle.bits.proofs.Bytes.{AreBytes}
 use Rattle.bits.proofs.Cases.{le-or-lt}
 use Rattle.grammar.proofs.Places.{flag-test, octet}
-use Rattle.grammar.specs.Meaning.{bind, ends}
+use Rattle.grammar.specs.Meaning.{bind, run, Outcome, ends}
 use Rattle.grammar.specs.Tables.{header, payload, splice-info-section}
 use Rattle.grammar.proofs.Run.{Runs, pass, yes-last, no-last, filled-last, swept-bytes}
 use Rattle.section.specs.declared.Verdict.{Verdict}
@@ -22,7 +22,7 @@ use Rattle.units.specs.Refusals.{numberOf}
 use Rattle.units.proofs.Numbers.{number-only}
 use Rattle.units.proofs.Rows.{Row, none, miss, hit}
 use Rattle.section.specs.declared.Verdict.the-variants.{Accepted, Refused}
-use Rattle.section.specs.Accept.{the, ruleOf, broken, judged, grammatical, verdict}
+use Rattle.section.specs.Accept.{the, grammarOf, breaks, complete, judged, grammatical, verdict}
 
 or-left : (a b : Bool) → a ≡ true → (a || b) ≡ true
 or-left a b e = ap (λ (t : Bool). t || b) e
@@ -85,40 +85,40 @@ module _ (s : List ℕ) (hs : AreBytes s) where
 
 -- ---- the grammar's own rows
 
--- the rule that the whole section breaks, where the rest after the header comes to a verdict
-pub rule : (s : List ℕ) (r : Verdict) → 20 ≤ length s → eqb (the s "encrypted_packet") 1 ≡ false
-    → Runs payload (bind header (bit s) 0 []) (bit s) (8 * (length s - 4)) 104 (judged (length s - 4) r) → broken s ≡ ruleOf (judged (length s - 4) r)
-unfolding broken splice-info-section the
-rule s r long clear-bit r-runs = ap ruleOf (whole .runs)
+-- what the whole section comes to, where the rest after the header comes to a verdict
+pub whole : (s : List ℕ) (o : Outcome) → 20 ≤ length s → eqb (the s "encrypted_packet") 1 ≡ false
+    → Runs payload (bind header (bit s) 0 []) (bit s) (8 * (length s - 4)) 104 o → grammarOf s ≡ o
+unfolding grammarOf splice-info-section the
+whole s o long clear-bit r = of (pass (omega arith) (no-last clear-bit r))
   where
-    whole : Runs splice-info-section [] (bit s) (8 * (length s - 4)) 0 (judged (length s - 4) r)
-    whole = pass (omega arith) (no-last clear-bit r-runs)
+    of : Runs splice-info-section [] (bit s) (8 * (length s - 4)) 0 o → run splice-info-section [] (bit s) (8 * (length s - 4)) 0 ≡ o
+    of q = q .runs
 
--- and where it is sealed it breaks none
-pub sealed-rule : (s : List ℕ) → 20 ≤ length s → eqb (the s "encrypted_packet") 1 ≡ true → broken s ≡ 0
-unfolding broken splice-info-section the ruleOf
-sealed-rule s long closed = ap ruleOf (whole .runs)
+-- and where it is sealed: it is kept as bytes to the end
+pub sealed-whole : (s : List ℕ) → 20 ≤ length s → eqb (the s "encrypted_packet") 1 ≡ true → grammarOf s ≡ ends (8 * (length s - 4))
+unfolding grammarOf splice-info-section the
+sealed-whole s long closed =
+    let all : 104 + 8 * (length s - 17) ≡ 8 * (length s - 4) = omega arith in
+    of (pass (omega arith) (yes-last closed (filled-last (swept-bytes "sealed_byte" _ (bit s) (8 * (length s - 4)) (length s - 17) 104 all))))
   where
-    all : 104 + 8 * (length s - 17) ≡ 8 * (length s - 4)
-    all = omega arith
+    of : Runs splice-info-section [] (bit s) (8 * (length s - 4)) 0 (ends (8 * (length s - 4)))
+        → run splice-info-section [] (bit s) (8 * (length s - 4)) 0 ≡ ends (8 * (length s - 4))
+    of q = q .runs
 
-    whole : Runs splice-info-section [] (bit s) (8 * (length s - 4)) 0 (ends (8 * (length s - 4)))
-    whole = pass (omega arith) (yes-last closed (filled-last (swept-bytes "sealed_byte" _ (bit s) (8 * (length s - 4)) (length s - 17) 104 all)))
-
--- the last three rows, by that rule
-abbrev pub last-rows : ℕ → List (Bool × ℕ)
-last-rows b = (eqb b 8, 8) ∷ (eqb b 9, 9) ∷ (eqb b 10, 10) ∷ []
+-- the last three rows, by what the grammar says
+abbrev pub last-rows : Outcome → List (Bool × ℕ)
+last-rows o = (breaks o 8, 8) ∷ (breaks o 9, 9) ∷ (not (complete o), 10) ∷ []
 
 -- the row and the verdict that a verdict of the grammar's comes to
-pub last-row : (r : Verdict) (end b : ℕ) → grammatical r → b ≡ ruleOf (judged end r) → (n : ℕ) × Row (last-rows b) n × (r ≡ verdict n)
-unfolding ruleOf verdict
-last-row Accepted end b h e =
-    (0, miss (ne-eqb b 8 (λ q. omega arith)) (miss (ne-eqb b 9 (λ q. omega arith)) (miss (ne-eqb b 10 (λ q. omega arith)) none)), refl)
-last-row (Refused x) end b h e =
+pub last-row : (r : Verdict) (end : ℕ) → grammatical r → (n : ℕ) × Row (last-rows (judged end r)) n × (r ≡ verdict n)
+unfolding breaks complete verdict
+last-row Accepted end h = (0, miss refl (miss refl (miss refl none)), refl)
+last-row (Refused x) end h =
+    let b : ℕ = numberOf x in
     ⊎-elim
     (λ l. ⊎-elim
-    (λ m. (10, miss (ne-eqb b 8 (λ q. omega arith)) (miss (ne-eqb b 9 (λ q. omega arith)) (hit (eq-eqb b 10 (omega arith)))), ap Refused (number-only x Descriptor (omega arith))))
+    (λ m. (10, miss (ne-eqb b 8 (λ q. omega arith)) (miss (ne-eqb b 9 (λ q. omega arith)) (hit refl)), ap Refused (number-only x Descriptor (omega arith))))
     (λ m. (9, miss (ne-eqb b 8 (λ q. omega arith)) (hit (eq-eqb b 9 (omega arith))), ap Refused (number-only x Loop (omega arith))))
-    (le-or-lt 10 (numberOf x)))
+    (le-or-lt 10 b))
     (λ l. (8, hit (eq-eqb b 8 (omega arith)), ap Refused (number-only x Command (omega arith))))
-    (le-or-lt 9 (numberOf x))
+    (le-or-lt 9 b)

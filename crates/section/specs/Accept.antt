@@ -2,7 +2,7 @@
 -- Assumes nothing.
 use Prim.Native.Nat.{ℕ, zero, suc, _+_, _-_, _*_, _≤_}
 use Prim.Native.String.{String}
-use mathlib.Core.Bool.{Bool, not, _&&_, _||_}
+use mathlib.Core.Bool.{Bool, true, false, not, _&&_, _||_}
 use mathlib.Core.List.{List, [], _∷_}
 use lib.ListN.{length}
 use lib.Dec.{ltb, eqb}
@@ -18,14 +18,19 @@ use Rattle.section.specs.declared.Verdict.the-variants.{Accepted, Refuse
 unfoldable pub the : List ℕ → String → ℕ
 the s n = valueOf (bind header (bit s) 0 []) n
 
--- the number of the rule that an outcome breaks, 0 where it breaks none
-unfoldable pub ruleOf : Outcome → ℕ
-ruleOf (breach n) = n
-ruleOf (ends k) = 0
+-- what the grammar says of all that stands before CRC_32
+unfoldable pub grammarOf : List ℕ → Outcome
+grammarOf s = run splice-info-section [] (bit s) (8 * (length s - 4)) 0
 
--- the rule of the grammar that the section breaks, over all that stands before CRC_32
-unfoldable pub broken : List ℕ → ℕ
-broken s = ruleOf (run splice-info-section [] (bit s) (8 * (length s - 4)) 0)
+-- the outcome is a breach of the rule n
+unfoldable pub breaks : Outcome → ℕ → Bool
+breaks (breach m) n = eqb m n
+breaks (ends k) n = false
+
+-- the outcome is no breach
+unfoldable pub complete : Outcome → Bool
+complete (breach m) = false
+complete (ends k) = true
 
 -- the first row that applies, 0 where none does
 unfoldable pub acceptRow : List ℕ → ℕ
@@ -38,9 +43,9 @@ acceptRow s =
     ∷ (not (eqb (crc32 s) 0), 5)  -- CRC
     ∷ (not (eqb (the s "protocol_version") 0), 6)  -- VERSION
     ∷ (eqb (the s "encrypted_packet") 1 && ltb (length s) 24, 7)  -- CRYPT
-    ∷ (eqb (broken s) 8, 8)  -- COMMAND
-    ∷ (eqb (broken s) 9, 9)  -- LOOP
-    ∷ (eqb (broken s) 10, 10)  -- DESCRIPTOR
+    ∷ (breaks (grammarOf s) 8, 8)  -- COMMAND
+    ∷ (breaks (grammarOf s) 9, 9)  -- LOOP
+    ∷ (not (complete (grammarOf s)), 10)  -- DESCRIPTOR
     ∷ [])
 
 -- the verdict for a row: no row, 0, accepts

@@ -16,8 +16,8 @@ use Rattle.crc.specs.Crc.{crc32}
 use Rattle.units.proofs.Rows.{Row, miss, hit}
 use Rattle.section.specs.declared.Verdict.{Verdict}
 use Rattle.section.specs.declared.Verdict.the-variants.{Accepted}
-use Rattle.section.specs.Accept.{the, ruleOf, broken, acceptRow, verdict, acceptOf}
-use Rattle.section.proofs.Rows.{table, no-table, syntax-clear, syntax-set, size, too-long, other-length, version-0, other-version, clear, sealed, rule, sealed-rule, last-rows, last-row}
+use Rattle.section.specs.Accept.{the, grammarOf, acceptRow, verdict, acceptOf, judged}
+use Rattle.section.proofs.Rows.{table, no-table, syntax-clear, syntax-set, size, too-long, other-length, version-0, other-version, clear, sealed, whole, sealed-whole, last-rows, last-row}
 use borrow.Author.Needs.{needs}
 use Rattle.section.proofs.accept.Statement.{statement}
 use Rattle.section.proofs.accept.Tie as tie
@@ -32,7 +32,7 @@ rows s =
     ∷ (not (eqb (crc32 s) 0), 5)
     ∷ (not (eqb (the s "protocol_version") 0), 6)
     ∷ (eqb (the s "encrypted_packet") 1 && ltb (length s) 24, 7)
-    ∷ last-rows (broken s)
+    ∷ last-rows (grammarOf s)
 
 -- a verdict is the one for the first row that applies
 decide : (s : List ℕ) {r : Verdict} (n : ℕ) → Row (rows s) n → r ≡ verdict n → r ≡ acceptOf s
@@ -143,7 +143,8 @@ returns-8 c =
     let s = c .before .before .before .before .before .before .before .before .before .before .before .before .before .before .before .before .args .s .now in
     let hs : AreBytes s = λ i. (c .before .before .before .before .before .before .before .before .before .before .before .before .before .before .before .shared-slice-known .given i) .fits in
     let end : ℕ = length s - 4 in
-    let came = last-row (c .payload .result) end (broken s) (c .payload .ensures .1) (rule s (c .payload .result) (c .before .before .before .before .before .before .before .before .before .before .before .before .before .before .if1 .left) (clear s hs (c .before .if8 .taken)) (c .payload .ensures .0)) in
+    let came = last-row (c .payload .result) end (c .payload .ensures .1) in
+    let o = whole s (judged end (c .payload .result)) (c .before .before .before .before .before .before .before .before .before .before .before .before .before .before .if1 .left) (clear s hs (c .before .if8 .taken)) (c .payload .ensures .0) in
     decide s (came .0) (miss (le-ltb (length s) 20 (c .before .before .before .before .before .before .before .before .before .before .before .before .before .before .if1 .left))
     (miss (table s hs (c .before .before .before .before .before .before .before .before .before .before .before .before .if2 .left))
     (miss (syntax-clear s hs (c .before .before .before .before .before .before .before .before .before .before .if3 .left))
@@ -151,7 +152,7 @@ returns-8 c =
     (miss (ap (λ (x : ℕ). not (eqb x 0)) (sym (c .before .before .before .before .before .before .crc .ensures) ∙ c .before .before .before .before .before .if6 .left))
     (miss (version-0 s hs (c .before .before .before .if7 .left))
     (miss (ap (λ (t : Bool). t && ltb (length s) 24) (clear s hs (c .before .if8 .taken)))
-    (came .1)))))))) (came .2)
+    (rw o (came .1))))))))) (came .2)
 
 returns-9 : tie.Need-returns-9
 unfolding verdict
@@ -167,11 +168,12 @@ returns-9 c =
     (hit (ap₂ (λ (t u : Bool). t && u) (sealed s hs (c .before .if8 .left)) (lt-ltb (length s) 24 (c .if9 .taken)))))))))) refl
 
 returns-10 : tie.Need-returns-10
-unfolding verdict ruleOf
+unfolding verdict
 returns-10 c =
     let s = c .before .before .before .before .before .before .before .before .before .before .before .before .before .before .before .before .args .s .now in
     let hs : AreBytes s = λ i. (c .before .before .before .before .before .before .before .before .before .before .before .before .before .before .before .shared-slice-known .given i) .fits in
-    let came = last-row Accepted 0 (broken s) tt (sealed-rule s (c .before .before .before .before .before .before .before .before .before .before .before .before .before .before .if1 .left) (sealed s hs (c .before .if8 .left))) in
+    let came = last-row Accepted (length s - 4) tt in
+    let o = sealed-whole s (c .before .before .before .before .before .before .before .before .before .before .before .before .before .before .if1 .left) (sealed s hs (c .before .if8 .left)) in
     decide s (came .0) (miss (le-ltb (length s) 20 (c .before .before .before .before .before .before .before .before .before .before .before .before .before .before .if1 .left))
     (miss (table s hs (c .before .before .before .before .before .before .before .before .before .before .before .before .if2 .left))
     (miss (syntax-clear s hs (c .before .before .before .before .before .before .before .before .before .before .if3 .left))
@@ -179,7 +181,7 @@ returns-10 c =
     (miss (ap (λ (x : ℕ). not (eqb x 0)) (sym (c .before .before .before .before .before .before .crc .ensures) ∙ c .before .before .before .before .before .if6 .left))
     (miss (version-0 s hs (c .before .before .before .if7 .left))
     (miss (ap₂ (λ (t u : Bool). t && u) (sealed s hs (c .before .if8 .left)) (le-ltb (length s) 24 (c .if9 .left)))
-    (came .1)))))))) (came .2)
+    (rw o (came .1))))))))) (came .2)
 
 pub accept-spec : {M : Type 1} → statement M
 accept-spec =
