@@ -8,3 +8,4 @@ pub mod Plain
 pub mod ByKind
 pub mod Frames
 pub mod Walk
+pub mod Loop
