@@ -1,5 +1,7 @@
 -- The syntax tables of SCTE 35 2023r1, in its order and under its names. Rules marked (house) are paper 01's, and so are the
 -- bits called reserved: sap_type and event_id_compliance_flag are reserved in the base edition.
+-- After `branch` stand the test, what comes if it holds, what comes if not, and what comes after either; every other step ends
+-- in what comes after it, and `done` is nothing more.
 -- Assumes nothing.
 use Prim.Native.Nat.{ℕ}
 use Prim.Native.String.{String}
@@ -17,8 +19,8 @@ unfoldable pub splice-time : Prog
 splice-time =
     fields (field 1 "time_specified_flag" ∷ [])
     (branch (is "time_specified_flag" 1)
-    (fields (reserved 6 ∷ field 33 "pts_time" ∷ []) done)
-    (fields (reserved 7 ∷ []) done)
+    (fields (reserved 6 ∷ field 33 "pts_time" ∷ []) done)  -- if so
+    (fields (reserved 7 ∷ []) done)  -- if not
     done)
 
 -- Table 15
@@ -38,8 +40,8 @@ avails = branch (is "duration_flag" 1) break-duration done avail-numbers
 unfoldable pub schedule-times : Prog
 schedule-times =
     branch (is "program_splice_flag" 1)
-    (fields (field 32 "utc_splice_time" ∷ []) done)
-    (fields (field 8 "component_count" ∷ [])
+    (fields (field 32 "utc_splice_time" ∷ []) done)  -- if so
+    (fields (field 8 "component_count" ∷ [])  -- if not
     (repeat "component_count" (fields (field 8 "component_tag" ∷ field 32 "utc_splice_time" ∷ []) done)
     done))
     done
@@ -49,11 +51,11 @@ unfoldable pub schedule-event : Prog
 schedule-event =
     fields (field 32 "splice_event_id" ∷ field 1 "splice_event_cancel_indicator" ∷ reserved 7 ∷ [])
     (branch (is "splice_event_cancel_indicator" 0)
-    (fields (field 1 "out_of_network_indicator" ∷ field 1 "program_splice_flag" ∷ field 1 "duration_flag" ∷ reserved 5 ∷ [])
+    (fields (field 1 "out_of_network_indicator" ∷ field 1 "program_splice_flag" ∷ field 1 "duration_flag" ∷ reserved 5 ∷ [])  -- if so
     (call schedule-times
     (call avails
     done)))
-    done
+    done  -- if not
     done)
 
 -- Table 9
@@ -71,8 +73,8 @@ insert-component =
 unfoldable pub insert-times : Prog
 insert-times =
     branch (is "program_splice_flag" 1)
-    (branch (is "splice_immediate_flag" 0) splice-time done done)
-    (fields (field 8 "component_count" ∷ []) (repeat "component_count" insert-component done))
+    (branch (is "splice_immediate_flag" 0) splice-time done done)  -- if so
+    (fields (field 8 "component_count" ∷ []) (repeat "component_count" insert-component done))  -- if not
     done
 
 -- Table 10
@@ -80,13 +82,13 @@ unfoldable pub splice-insert : Prog
 splice-insert =
     fields (field 32 "splice_event_id" ∷ field 1 "splice_event_cancel_indicator" ∷ reserved 7 ∷ [])
     (branch (is "splice_event_cancel_indicator" 0)
-    (fields
+    (fields  -- if so
     (field 1 "out_of_network_indicator" ∷ field 1 "program_splice_flag" ∷ field 1 "duration_flag"
     ∷ field 1 "splice_immediate_flag" ∷ reserved 4 ∷ [])
     (call insert-times
     (call avails
     done)))
-    done
+    done  -- if not
     done)
 
 -- Table 13
@@ -108,8 +110,8 @@ command private-one otherwise =
 unfoldable pub sized-command : Prog
 sized-command =
     branch (is "splice_command_length" 0xFFF)
-    (command stop stop)
-    (frame "splice_command_length" (command private-command (bytes "command_byte")) done)
+    (command stop stop)  -- if so
+    (frame "splice_command_length" (command private-command (bytes "command_byte")) done)  -- if not
     done
 
 -- ---- descriptors
@@ -129,21 +131,21 @@ dtmf-descriptor =
 unfoldable pub delivery : Prog
 delivery =
     branch (is "delivery_not_restricted_flag" 0)
-    (fields
+    (fields  -- if so
     (field 1 "web_delivery_allowed_flag" ∷ field 1 "no_regional_blackout_flag" ∷ field 1 "archive_allowed_flag"
     ∷ field 2 "device_restrictions" ∷ [])
     done)
-    (fields (reserved 5 ∷ []) done)
+    (fields (reserved 5 ∷ []) done)  -- if not
     done
 
 -- Table 20, the components
 unfoldable pub segmentation-components : Prog
 segmentation-components =
     branch (is "program_segmentation_flag" 0)
-    (fields (field 8 "component_count" ∷ [])
+    (fields (field 8 "component_count" ∷ [])  -- if so
     (repeat "component_count" (fields (field 8 "component_tag" ∷ reserved 7 ∷ field 33 "pts_offset" ∷ []) done)
     done))
-    done
+    done  -- if not
     done
 
 -- Table 20, the types that may carry sub-segments
@@ -157,8 +159,8 @@ segmentation-end =
     (repeat "segmentation_upid_length" (fields (field 8 "segmentation_upid" ∷ []) done)
     (fields (field 8 "segmentation_type_id" ∷ field 8 "segment_num" ∷ field 8 "segments_expected" ∷ [])
     (branch (among "segmentation_type_id" sub-segmented)
-    (branch more (fields (field 8 "sub_segment_num" ∷ field 8 "sub_segments_expected" ∷ []) done) done done)
-    done
+    (branch more (fields (field 8 "sub_segment_num" ∷ field 8 "sub_segments_expected" ∷ []) done) done done)  -- if so
+    done  -- if not
     done)))
 
 -- Table 20, after the identifier
@@ -166,13 +168,13 @@ unfoldable pub segmentation-descriptor : Prog
 segmentation-descriptor =
     fields (field 32 "segmentation_event_id" ∷ field 1 "segmentation_event_cancel_indicator" ∷ reserved 7 ∷ [])
     (branch (is "segmentation_event_cancel_indicator" 0)
-    (fields (field 1 "program_segmentation_flag" ∷ field 1 "segmentation_duration_flag" ∷ field 1 "delivery_not_restricted_flag" ∷ [])
+    (fields (field 1 "program_segmentation_flag" ∷ field 1 "segmentation_duration_flag" ∷ field 1 "delivery_not_restricted_flag" ∷ [])  -- if so
     (call delivery
     (call segmentation-components
     (branch (is "segmentation_duration_flag" 1) (fields (field 40 "segmentation_duration" ∷ []) done) done
     (call segmentation-end
     done)))))
-    done
+    done  -- if not
     done)
 
 -- Table 27, after the identifier
