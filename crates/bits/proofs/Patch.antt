@@ -14,7 +14,8 @@ use borrow.Author.Tests.{le-leb, lt-leb, lt-ltb, le-ltb}
 use Rattle.bits.specs.Bits.{bit, num, patched, bytesOf, byteOf, writable, writtenOf, Scattered}
 use Rattle.bits.proofs.Cases.{le-or-lt}
 use Rattle.bits.proofs.Num.{Bits, num-ext, num-three, num-part}
-use Rattle.bits.proofs.Bytes.{AreBytes, bit-lt, byte-field, num-digits, is-run, bytesOf-bit, bytesOf-ext}
+use Rattle.bits.proofs.Bytes.{AreBytes, bit-lt, byte-field, is-run, bytesOf-bit, bytesOf-ext}
+use Rattle.bits.proofs.Digits.{num-digits}
 
 module _ (f : ℕ → ℕ) (at w v : ℕ) where
   pub patched-here : (k : ℕ) → at ≤ k → k < at + w → patched f at w v k ≡ v / 2 ^ (at + w - (k + 1)) % 2
