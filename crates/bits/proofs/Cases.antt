@@ -1,7 +1,7 @@
 -- Tests, what their values say of one another; two numbers in order, one way or the other; and tests that agree.
 -- Assumes nothing.
 use mathlib.Core.Path.{_≡_, refl, sym, ap, ap₂, _∙_, subst}
-use mathlib.Core.Bool.{Bool, true, false, _&&_, _||_, true≢false, false≢true}
+use mathlib.Core.Bool.{Bool, true, false, cond, _&&_, _||_, true≢false, false≢true}
 use mathlib.Core.Logic.{_⊎_, inl, inr, ⊎-elim}
 use Prim.Native.Nat.{ℕ, zero, suc, _+_, _*_, _/_, _%_, _^_, _≤_, _<_}
 use native.Mathlib.Nat.{le-of-suc-le-suc, not-suc-le-zero, eq-or-lt-of-le, mod-lt, div-eq-of-lt}
@@ -37,6 +37,11 @@ or-right a b e q = ap₂ (λ (t u : Bool). t || u) e q
 pub neither : (a b : Bool) → (a || b) ≡ false → (a ≡ false) × (b ≡ false)
 neither true b e = absurd (true≢false e)
 neither false b e = (refl, e)
+
+-- two choices agree where each of their arms does
+pub cond-same : {A : Type 0} (b : Bool) {x x′ y y′ : A} → (b ≡ true → x ≡ x′) → (b ≡ false → y ≡ y′) → cond b x y ≡ cond b x′ y′
+cond-same true h l = h refl
+cond-same false h l = l refl
 
 -- the test holds of each number below n
 abbrev pub all : (ℕ → Bool) → ℕ → Bool

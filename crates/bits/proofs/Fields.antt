@@ -4,13 +4,13 @@
 use mathlib.Core.Path.{_≡_, refl, sym, ap, ap₂, _∙_}
 use mathlib.Core.Bool.{Bool, true, false, _&&_}
 use mathlib.Core.List.{List, [], _∷_, map}
-use mathlib.Core.Logic.{_⊎_, inl, inr, ⊎-elim}
+use mathlib.Core.Logic.{_⊎_, inl, ⊎-elim}
 use Prim.Native.Nat.{ℕ, _+_, _*_, _^_, _≤_, _<_}
 use native.Mathlib.Omega.{arith}
 use lib.ListN.{length}
 use lib.Dec.{leb, ltb}
 use lib.Pow.{pow-pos}
-use Rattle.bits.specs.Bits.{bit, num, within, fieldOf, patched, bytesOf, writable, writtenOf, writeAll, allWritable, readAll}
+use Rattle.bits.specs.Bits.{bit, within, fieldOf, patched, writable, writtenOf, writeAll, allWritable, readAll}
 use Rattle.bits.proofs.Cases.{by-cases, and-left, and-right}
 use Rattle.bits.proofs.Num.{num-lt, num-ext}
 use Rattle.bits.proofs.Bytes.{AreBytes, bit-lt, bit-bytesOf, length-bytesOf, are-bytesOf}

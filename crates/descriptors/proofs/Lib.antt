@@ -1,10 +1,3 @@
-pub mod Bools
 pub mod Keys
-pub mod Places
-pub mod Rows
-pub mod Scope
-pub mod Inside
-pub mod Plain
 pub mod ByKind
-pub mod Frames
 pub mod Walk
