@@ -1,18 +1,18 @@
 -- The bits of a byte list: a byte is an 8-bit field, a list is made by its bits, and eight bits more are one byte more.
 -- Assumes nothing.
-use mathlib.Core.Path.{_≡_, refl, sym, ap, ap₂, _∙_, subst}
-use mathlib.Core.List.{List, [], _∷_}
+use mathlib.Core.Path.{_≡_, refl, sym, ap, ap₂, _∙_}
+use mathlib.Core.List.{List, [], _∷_, _++_}
 use mathlib.Core.Logic.{⊎-elim}
 use Prim.Native.Nat.{ℕ, zero, suc, _+_, _-_, _*_, _/_, _%_, _^_, _≤_, _<_}
-use native.Mathlib.Nat.{pow-suc, add-suc, add-zero, zero-add, suc-add, mod-lt, mod-eq-of-lt, lt-of-lt-of-le}
-use native.Mathlib.Numerals.{add-one}
+use native.Mathlib.Nat.{add-suc, add-zero, zero-add, suc-add, zero-div, mod-lt, mod-eq-of-lt, lt-of-lt-of-le}
 use native.Mathlib.Omega.{arith}
-use lib.Pow.{pow-mono, shr-shr, mod-pow-add}
+use lib.Pow.{pow-mono}
 use lib.ListN.{length, getD, List·getD-eq-default}
 use lib.Seq.{ext-getD}
 use Rattle.bits.specs.Bits.{bit, num, run, byteOf, bytesOf}
 use Rattle.bits.proofs.Cases.{le-or-lt}
-use Rattle.bits.proofs.Num.{Bits, num-zero, num-one, num-suc, num-lt, num-split, num-ext, num-part}
+use Rattle.bits.proofs.Num.{Bits, num-lt, num-ext}
+use Rattle.bits.proofs.Digits.{digit-whole, digit-more, bit-of}
 
 -- every element of the list is a byte
 abbrev pub AreBytes : List ℕ → Type 0
@@ -30,38 +30,45 @@ bit-at s i j h =
     let q : (8 * i + j) % 8 ≡ j = omega arith in
     ap₂ (λ (m n : ℕ). getD s m 0 / 2 ^ (7 - n) % 2) p q
 
--- the digits of a number, most significant first, make it again
-pub num-digits : (f : ℕ → ℕ) (k v w : ℕ) → ((i : ℕ) → i < w → f (k + i) ≡ v / 2 ^ (w - (i + 1)) % 2) → num f k w ≡ v % 2 ^ w
-num-digits f k v zero h = rw num-zero (omega arith)
-num-digits f k v (suc w) h =
-    let none : suc w - (w + 1) ≡ 0 = omega arith in
-    let low : f (k + w) ≡ v % 2 = h w (omega arith) ∙ ap (λ (e : ℕ). v / 2 ^ e % 2) none ∙ omega arith in
-    num-suc f k w
-    ∙ ap₂ (λ (x y : ℕ). x * 2 + y) (num-digits f k (v / 2) w (λ i m. h i (omega arith) ∙ halved i m)) low
-    ∙ sym (mod-pow-add v w 1)
-    ∙ ap (λ (e : ℕ). v % 2 ^ e) (add-one w)
-  where
-    halved : (i : ℕ) → i < w → v / 2 ^ (suc w - (i + 1)) % 2 ≡ v / 2 / 2 ^ (w - (i + 1)) % 2
-    halved i m =
-        let one-more : suc w - (i + 1) ≡ 1 + (w - (i + 1)) = omega arith in
-        ap (λ (e : ℕ). v / 2 ^ e % 2) one-more ∙ ap (λ (x : ℕ). x % 2) (sym (shr-shr v 1 (w - (i + 1))))
+-- past the end every bit is 0
+pub bit-past : (s : List ℕ) (k : ℕ) → 8 * length s ≤ k → bit s k ≡ 0
+unfolding bit
+bit-past s k h = rw (List·getD-eq-default s 0 {n = k / 8} (omega arith), zero-div)
 
--- a byte is an 8-bit field
-pub byte-field : (s : List ℕ) (i : ℕ) → getD s i 0 < 256 → num (bit s) (8 * i) 8 ≡ getD s i 0
-byte-field s i h =
-    num-digits (bit s) (8 * i) (getD s i 0) 8
-    (λ j m.
-    let e : 7 - j ≡ 8 - (j + 1) = omega arith in
-    bit-at s i j m ∙ ap (λ (x : ℕ). getD s i 0 / 2 ^ x % 2) e)
-    ∙ mod-eq-of-lt h
+-- ---- bytes as digits of eight bits
+
+digit-at : (s : List ℕ) (i j : ℕ) → j < 8 → bit s (8 * i + j) ≡ getD s i 0 / 2 ^ (8 - (j + 1)) % 2
+digit-at s i j h = bit-at s i j h ∙ ap (λ (x : ℕ). getD s i 0 / 2 ^ x % 2) (omega arith)
+
+pub byte-whole : (s : List ℕ) (i : ℕ) → num (bit s) (8 * i) 8 ≡ getD s i 0 % 256
+byte-whole s = digit-whole 8 (bit s) (λ (i : ℕ). getD s i 0) (digit-at s)
 
 -- eight bits more are one byte more
+pub byte-more : (s : List ℕ) (i n : ℕ) → num (bit s) (8 * i) (8 * n + 8) ≡ num (bit s) (8 * i) (8 * n) * 256 + getD s (i + n) 0 % 256
+byte-more s = digit-more 8 (bit s) (λ (i : ℕ). getD s i 0) (digit-at s)
+
+-- the same of elements that are bytes
+pub byte-field : (s : List ℕ) (i : ℕ) → getD s i 0 < 256 → num (bit s) (8 * i) 8 ≡ getD s i 0
+byte-field s i h = byte-whole s i ∙ mod-eq-of-lt h
+
 pub num-byte : (s : List ℕ) (i n : ℕ) → getD s (i + n) 0 < 256
     → num (bit s) (8 * i) (8 * n + 8) ≡ num (bit s) (8 * i) (8 * n) * 256 + getD s (i + n) 0
-num-byte s i n h =
-    let place : 8 * i + 8 * n ≡ 8 * (i + n) = omega arith in
-    num-split (bit s) (8 * i) (8 * n) 8
-    ∙ ap (λ (x : ℕ). num (bit s) (8 * i) (8 * n) * 256 + x) (ap (λ (k : ℕ). num (bit s) k 8) place ∙ byte-field s (i + n) h)
+num-byte s i n h = byte-more s i n ∙ ap (λ (x : ℕ). num (bit s) (8 * i) (8 * n) * 256 + x) (mod-eq-of-lt h)
+
+-- the number that four bytes make, most significant first
+abbrev pub word : ℕ → ℕ → ℕ → ℕ → ℕ
+word a b c d = ((a * 256 + b) * 256 + c) * 256 + d
+
+pub num-word : (s : List ℕ) → AreBytes s → (i : ℕ)
+    → num (bit s) (8 * i) 32 ≡ word (getD s i 0) (getD s (i + 1) 0) (getD s (i + 2) 0) (getD s (i + 3) 0)
+num-word s h i =
+    omega (arith, byte-field s i (h i), num-byte s i 1 (h (i + 1)), num-byte s i 2 (h (i + 2)), num-byte s i 3 (h (i + 3)))
+
+-- fewer than eight bytes leave room for one more in 64 bits
+pub num-room : (s : List ℕ) (k n : ℕ) → n < 8 → num (bit s) k (8 * n) < 2 ^ 56
+num-room s k n h =
+    let few : 8 * n ≤ 56 = omega arith in
+    lt-of-lt-of-le (num-lt (bit s) (bit-lt s) k (8 * n)) (pow-mono few)
 
 -- ---- runs
 
@@ -84,55 +91,43 @@ is-run g s n e h =
     let m′ : k < n = omega (arith, e) in
     h k m′ ∙ ap g (sym (zero-add k)) ∙ sym (getD-run g 0 n k m′))
 
--- ---- words of bytes
+-- one value more, at the end
+pub run-more : (g : ℕ → ℕ) (i n : ℕ) → run g i (n + 1) ≡ run g i n ++ (g (i + n) ∷ [])
+unfolding run
+run-more g i zero = ap (λ (k : ℕ). g k ∷ []) (sym (add-zero i))
+run-more g i (suc n) =
+    ap (run g i) (suc-add n 1)
+    ∙ ap (λ (l : List ℕ). g i ∷ l) (run-more g (suc i) n)
+    ∙ ap (λ (k : ℕ). g i ∷ (run g (suc i) n ++ (g k ∷ []))) (omega arith)
 
--- four bytes make 32 bits
-pub num-four : (s : List ℕ) (i a b c d : ℕ)
-    → a ≡ getD s i 0 → b ≡ getD s (i + 1) 0 → c ≡ getD s (i + 2) 0 → d ≡ getD s (i + 3) 0
-    → a < 256 → b < 256 → c < 256 → d < 256
-    → ((a * 256 + b) * 256 + c) * 256 + d ≡ num (bit s) (8 * i) 32
-num-four s i a b c d ea eb ec ed ha hb hc hd =
-    sym
-    (num-byte s i 3 (rw (← ed) hd)
-    ∙ ap₂ (λ (x y : ℕ). x * 256 + y)
-    (num-byte s i 2 (rw (← ec) hc)
-    ∙ ap₂ (λ (x y : ℕ). x * 256 + y)
-    (num-byte s i 1 (rw (← eb) hb) ∙ ap₂ (λ (x y : ℕ). x * 256 + y) (byte-field s i (rw (← ea) ha) ∙ sym ea) (sym eb))
-    (sym ec))
-    (sym ed))
-
--- fewer than eight bytes leave room for one more in 64 bits
-pub num-room : (s : List ℕ) (k n : ℕ) → n < 8 → num (bit s) k (8 * n) < 2 ^ 56
-num-room s k n h =
-    let few : 8 * n ≤ 56 = omega arith in
-    lt-of-lt-of-le (num-lt (bit s) (bit-lt s) k (8 * n)) (pow-mono few)
-
--- the bits of the bytes that bits make are those bits
-pub bit-bytesOf : (f : ℕ → ℕ) → Bits f → (n k : ℕ) → k < 8 * n → bit (bytesOf f n) k ≡ f k
-unfolding bytesOf byteOf
-bit-bytesOf f h n k m =
-    let i : ℕ = k / 8 in
-    let j : ℕ = k % 8 in
-    let here : 8 * i + j ≡ k = omega arith in
-    let eight : j + 1 + (7 - j) ≡ 8 = omega arith in
-    ap (bit (bytesOf f n)) (sym here)
-    ∙ bit-at (bytesOf f n) i j (omega arith)
-    ∙ ap (λ (x : ℕ). x / 2 ^ (7 - j) % 2) (getD-run (byteOf f) 0 n i (omega arith) ∙ ap (λ (x : ℕ). num f (8 * x) 8) (zero-add i) ∙ ap (num f (8 * i)) (sym eight))
-    ∙ num-part f h (8 * i) j 1 (7 - j)
-    ∙ num-one f (8 * i + j)
-    ∙ ap f here
+-- ---- the bytes that bits make
 
 pub length-bytesOf : (f : ℕ → ℕ) (n : ℕ) → length (bytesOf f n) ≡ n
 unfolding bytesOf
 length-bytesOf f n = length-run (byteOf f) 0 n
 
+pub getD-bytesOf : (f : ℕ → ℕ) (n i : ℕ) → i < n → getD (bytesOf f n) i 0 ≡ num f (8 * i) 8
+unfolding bytesOf byteOf
+getD-bytesOf f n i h = getD-run (byteOf f) 0 n i h ∙ ap (byteOf f) (zero-add i)
+
+-- the bits of the bytes that bits make are those bits
+pub bit-bytesOf : (f : ℕ → ℕ) → Bits f → (n k : ℕ) → k < 8 * n → bit (bytesOf f n) k ≡ f k
+bit-bytesOf f h n k m =
+    let i : ℕ = k / 8 in
+    let j : ℕ = k % 8 in
+    let here : 8 * i + j ≡ k = omega arith in
+    ap (bit (bytesOf f n)) (sym here)
+    ∙ digit-at (bytesOf f n) i j (omega arith)
+    ∙ ap (λ (x : ℕ). x / 2 ^ (8 - (j + 1)) % 2) (getD-bytesOf f n i (omega arith))
+    ∙ bit-of f h (8 * i) 8 j (omega arith)
+    ∙ ap f here
+
 -- what bits make are bytes
 pub are-bytesOf : (f : ℕ → ℕ) → Bits f → (n : ℕ) → AreBytes (bytesOf f n)
-unfolding bytesOf byteOf
 are-bytesOf f h n i = ⊎-elim past inside (le-or-lt n i)
   where
     inside : i < n → getD (bytesOf f n) i 0 < 256
-    inside m = rw (getD-run (byteOf f) 0 n i m) (num-lt f h (8 * (0 + i)) 8)
+    inside m = rw (getD-bytesOf f n i m) (num-lt f h (8 * i) 8)
 
     past : n ≤ i → getD (bytesOf f n) i 0 < 256
     past m =
@@ -149,7 +144,7 @@ pub bytesOf-ext : (f g : ℕ → ℕ) (n : ℕ) → ((k : ℕ) → k < 8 * n →
 unfolding bytesOf byteOf
 bytesOf-ext f g n h =
     is-run (byteOf g) (bytesOf f n) n (length-bytesOf f n)
-    (λ k m. getD-run (byteOf f) 0 n k m ∙ ap (byteOf f) (zero-add k) ∙ num-ext f g (8 * k) (8 * k) 8 (λ i l. h (8 * k + i) (omega arith)))
+    (λ k m. getD-bytesOf f n k m ∙ num-ext f g (8 * k) (8 * k) 8 (λ i l. h (8 * k + i) (omega arith)))
 
 -- two lists of bytes of one length are equal where their bits are
 pub bits-ext : (s t : List ℕ) → AreBytes s → AreBytes t → length s ≡ length t → ((k : ℕ) → k < 8 * length s → bit s k ≡ bit t k) → s ≡ t

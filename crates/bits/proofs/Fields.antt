@@ -2,23 +2,20 @@
 -- fields written one after another reads back as that list.
 -- Assumes nothing.
 use mathlib.Core.Path.{_≡_, refl, sym, ap, ap₂, _∙_}
-use mathlib.Core.Bool.{Bool, true, false, _&&_, false≢true}
+use mathlib.Core.Bool.{Bool, true, false, _&&_}
 use mathlib.Core.List.{List, [], _∷_, map}
-use mathlib.Core.Logic.{_⊎_, inl, inr, ⊎-elim}
+use mathlib.Core.Logic.{_⊎_, inl, ⊎-elim}
 use Prim.Native.Nat.{ℕ, _+_, _*_, _^_, _≤_, _<_}
 use native.Mathlib.Omega.{arith}
 use lib.ListN.{length}
 use lib.Dec.{leb, ltb}
 use lib.Pow.{pow-pos}
-use Rattle.bits.specs.Bits.{bit, num, within, fieldOf, patched, bytesOf, writable, writtenOf, writeAll, allWritable, readAll}
+use Rattle.bits.specs.Bits.{bit, within, fieldOf, patched, writable, writtenOf, writeAll, allWritable, readAll}
+use Rattle.bits.proofs.Cases.{by-cases, and-left, and-right}
 use Rattle.bits.proofs.Num.{num-lt, num-ext}
 use Rattle.bits.proofs.Bytes.{AreBytes, bit-lt, bit-bytesOf, length-bytesOf, are-bytesOf}
 use Rattle.bits.proofs.Within.{within-end, field-in, field-out, writable-within, writable-small, written-in, written-out}
 use Rattle.bits.proofs.Patch.{patched-bits, patched-before, patched-after, num-here}
-
-by-cases : (t : Bool) → (t ≡ true) ⊎ (t ≡ false)
-by-cases true = inl refl
-by-cases false = inr refl
 
 -- a field is below 2 to its width
 pub field-lt : (s : List ℕ) (at w : ℕ) → fieldOf s at w < 2 ^ w
@@ -88,14 +85,6 @@ elsewhere s at w v k l apart =
         ∙ sym (field-in s k l m)
 
 -- ---- fields one after another
-
-pub and-left : (a b : Bool) → (a && b) ≡ true → a ≡ true
-and-left true b h = refl
-and-left false b h = h
-
-pub and-right : (a b : Bool) → (a && b) ≡ true → b ≡ true
-and-right true b h = h
-and-right false b h = absurd (false≢true h)
 
 pub all-length : (s t : List ℕ) (at : ℕ) (xs : List (ℕ × ℕ)) → length s ≡ length t → allWritable s at xs ≡ allWritable t at xs
 unfolding allWritable

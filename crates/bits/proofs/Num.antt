@@ -3,6 +3,7 @@
 use mathlib.Core.Path.{_≡_, refl, sym, ap, ap₂, _∙_}
 use Prim.Native.Nat.{ℕ, zero, suc, _+_, _-_, _*_, _/_, _%_, _^_, _≤_, _<_}
 use native.Mathlib.Nat.{pow-suc, add-suc, add-zero, add-assoc, mul-lt-mul-of-pos-right}
+use native.Mathlib.Numerals.{add-one, one-add}
 use native.Mathlib.Omega.{arith}
 use lib.Pow.{pow-pos, pow-add, high, low, shr-shr, shl-shr}
 use Rattle.bits.specs.Bits.{num}
@@ -34,6 +35,10 @@ num-split f k a (suc b) =
     rw (add-suc, num-suc f k (a + b), num-suc f (k + a) b, num-split f k a b, pow-suc, add-assoc k a b)
     (omega (arith))
 
+-- the first bit, and the rest below it
+pub num-first : (f : ℕ → ℕ) (k w : ℕ) → num f k (suc w) ≡ f k * 2 ^ w + num f (suc k) w
+num-first f k w = simp (one-add, add-one, num-one) at (num-split f k 1 w)
+
 -- equal bits give equal fields
 pub num-ext : (f g : ℕ → ℕ) (k l w : ℕ) → ((i : ℕ) → i < w → f (k + i) ≡ g (l + i)) → num f k w ≡ num g l w
 num-ext f g k l zero h = num-zero f k ∙ sym (num-zero g l)
@@ -49,6 +54,10 @@ num-part f h k a b c =
     ∙ ap (λ (x : ℕ). x % 2 ^ b) (high (num f k (a + b)) c (num-lt f h (k + (a + b)) c))
     ∙ ap (λ (x : ℕ). x % 2 ^ b) (num-split f k a b)
     ∙ low (num f k a) b (num-lt f h (k + a) b)
+
+-- the same for a part that lies at place p
+pub num-part-at : (f : ℕ → ℕ) → Bits f → (k a b c p : ℕ) → p ≡ k + a → num f k (a + b + c) / 2 ^ c % 2 ^ b ≡ num f p b
+num-part-at f h k a b c p e = num-part f h k a b c ∙ ap (λ (q : ℕ). num f q b) (sym e)
 
 -- a field splits into three
 pub num-three : (f : ℕ → ℕ) (k a b c : ℕ) → num f k (a + (b + c)) ≡ num f k a * 2 ^ (b + c) + (num f (k + a) b * 2 ^ c + num f (k + a + b) c)

@@ -1,6 +1,6 @@
 -- Bits of which one field was given a value: that field reads as the value, and every other as before.
 -- Assumes nothing.
-use mathlib.Core.Path.{_≡_, refl, sym, ap, ap₂, _∙_, subst}
+use mathlib.Core.Path.{_≡_, refl, sym, ap, ap₂, _∙_}
 use mathlib.Core.Bool.{Bool, true, false, cond, _&&_}
 use mathlib.Core.List.{List}
 use mathlib.Core.Logic.{⊎-elim}
@@ -9,12 +9,13 @@ use native.Mathlib.Nat.{mod-lt, mod-eq-of-lt}
 use native.Mathlib.Omega.{arith}
 use lib.Pow.{shl-exact}
 use lib.ListN.{length, getD}
-use lib.Dec.{leb, ltb}
+use lib.Dec.{ltb}
 use borrow.Author.Tests.{le-leb, lt-leb, lt-ltb, le-ltb}
 use Rattle.bits.specs.Bits.{bit, num, patched, bytesOf, byteOf, writable, writtenOf, Scattered}
 use Rattle.bits.proofs.Cases.{le-or-lt}
 use Rattle.bits.proofs.Num.{Bits, num-ext, num-three, num-part}
-use Rattle.bits.proofs.Bytes.{AreBytes, bit-lt, byte-field, num-digits, is-run, bytesOf-bit, bytesOf-ext}
+use Rattle.bits.proofs.Bytes.{AreBytes, bit-lt, byte-field, is-run, bytesOf-bit, bytesOf-ext}
+use Rattle.bits.proofs.Digits.{num-digits}
 
 module _ (f : ℕ → ℕ) (at w v : ℕ) where
   pub patched-here : (k : ℕ) → at ≤ k → k < at + w → patched f at w v k ≡ v / 2 ^ (at + w - (k + 1)) % 2

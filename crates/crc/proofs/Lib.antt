@@ -1,6 +1,5 @@
 pub mod Xor
 pub mod Register
-pub mod Bytes
 pub mod Ahead
 pub mod Turns
 pub mod Residue

@@ -4,14 +4,13 @@
 use mathlib.Core.Path.{_≡_, refl, sym, ap, ap₂, _∙_}
 use mathlib.Core.Bool.{cond}
 use Prim.Native.Nat.{ℕ, zero, suc, _+_, _*_, _/_, _%_, _^_, _<_}
-use native.Mathlib.Nat.{add-suc, suc-add, add-zero, zero-add, zero-mul, pow-suc}
-use native.Mathlib.Numerals.{add-one, one-add}
+use native.Mathlib.Nat.{add-suc, suc-add, add-zero, zero-mul, pow-suc}
 use native.Mathlib.Omega.{arith}
 use lib.Dec.{eqb, lit<}
 use lib.Pow.{pow-add, shl-lt}
 use lib.Bits.{bitXor, xor-zero-r, xor-mod, xor-shr, xor-lt, xor-shifted}
 use Rattle.bits.specs.Bits.{num}
-use Rattle.bits.proofs.Num.{Bits, num-split, num-zero, num-suc, num-lt}
+use Rattle.bits.proofs.Num.{Bits, num-first, num-zero, num-lt}
 use Rattle.crc.specs.Crc.{step, register}
 use Rattle.crc.specs.Turns.{zeros}
 use Rattle.crc.proofs.Xor.{two-bits, xor-shl, xor-assoc, xor-swap, xor-zero}
@@ -132,12 +131,10 @@ register-lt f h zero = lit< tt
 register-lt f h (suc n) = step-lt (register f n) (f n) (register-lt f h n) (h n)
 
 -- a field in the top places: its first bit, and the rest below it
-num-first : (f : ℕ → ℕ) (k n m : ℕ) → n + m ≡ 31 → num f k (suc n) * 2 ^ m ≡ f k * 2 ^ 31 + num f (suc k) n * 2 ^ m
-num-first f k n m e =
+top-first : (f : ℕ → ℕ) (k n m : ℕ) → n + m ≡ 31 → num f k (suc n) * 2 ^ m ≡ f k * 2 ^ 31 + num f (suc k) n * 2 ^ m
+top-first f k n m e =
     let p : 2 ^ 31 ≡ 2 ^ n * 2 ^ m = ap (λ (x : ℕ). 2 ^ x) (sym e) ∙ pow-add 2 n m in
-    let q : num f k 1 ≡ f k = simp (num-suc f k 0, num-zero, add-zero) (zero-add (f k)) in
-    let r : num f k (suc n) ≡ num f k 1 * 2 ^ n + num f (suc k) n = simp (one-add, add-one) at (num-split f k 1 n) in
-    ap (λ (x : ℕ). x * 2 ^ m) (r ∙ ap (λ (x : ℕ). x * 2 ^ n + num f (suc k) n) q) ∙ rw p (omega arith)
+    rw (p, num-first) (omega arith)
 
 -- n more bits, put into the n top places, go on as n bits of 0
 pub register-more : (f : ℕ → ℕ) → Bits f → (k n m : ℕ) → n + m ≡ 32
@@ -153,7 +150,7 @@ register-more f h k (suc n) m e =
     ∙ sym (step-linear (bitXor (register f k) (f k * 2 ^ 31)) v (xor-lt 32 (register f k) (f k * 2 ^ 31) (register-lt f h k) (omega (arith, h k))) (omega (arith, v-lt)))
     ∙ ap (λ (x : ℕ). step x 0)
     (xor-assoc (register f k) (f k * 2 ^ 31) v
-    ∙ ap (bitXor (register f k)) (xor-shifted (f k) 31 v v-lt ∙ sym (num-first f k n m (omega arith)))))
+    ∙ ap (bitXor (register f k)) (xor-shifted (f k) 31 v v-lt ∙ sym (top-first f k n m (omega arith)))))
   where
     v : ℕ
     v = num f (suc k) n * 2 ^ m

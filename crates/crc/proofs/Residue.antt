@@ -6,35 +6,25 @@ use Prim.Native.Nat.{ℕ, zero, suc, _+_, _-_, _*_, _/_, _%_, _^_, _≤_, _<_}
 use native.Mathlib.Nat.{zero-add}
 use native.Mathlib.Omega.{arith}
 use lib.Dec.{lit<}
-use lib.ListN.{length, take, drop, length-append, length-drop, take-append-drop, List·getD-append}
-use lib.Seq.{getD-append-add, getD-drop}
+use lib.ListN.{length, take, drop, length-append, length-drop, take-append-drop}
+use lib.Seq.{getD-drop}
 use lib.Pow.{shr-shr}
 use lib.Bits.{bitXor, xor-self, xor-lt}
 use Rattle.bits.specs.Bits.{bit, num}
 use Rattle.bits.proofs.Num.{num-lt, num-ext}
+use Rattle.bits.proofs.Bytes.{AreBytes, bit-lt, word, num-word}
+use Rattle.bits.proofs.Parts.{bit-left, bit-right}
 use Rattle.crc.specs.Crc.{register, crc32, be32}
 use Rattle.crc.specs.Turns.{zeros}
 use Rattle.crc.proofs.Xor.{xor-zero}
 use Rattle.crc.proofs.Register.{zeros-zero, zeros-back, register-ext, register-lt}
 use Rattle.crc.proofs.Turns.{four-turn}
-use Rattle.crc.proofs.Bytes.{Bytes, bit-lt, word, word-num}
 
 pub crc32-lt : (s : List ℕ) → crc32 s < 2 ^ 32
 unfolding crc32
 crc32-lt s = register-lt (bit s) (bit-lt s) (8 * length s)
 
 -- ---- bytes at the end
-
-bit-left : (xs ys : List ℕ) (k : ℕ) → k < 8 * length xs → bit (xs ++ ys) k ≡ bit xs k
-unfolding bit
-bit-left xs ys k h = ap (λ (b : ℕ). b / 2 ^ (7 - k % 8) % 2) (List·getD-append xs ys 0 (k / 8) (omega arith))
-
-bit-right : (xs ys : List ℕ) (k : ℕ) → bit (xs ++ ys) (8 * length xs + k) ≡ bit ys k
-unfolding bit
-bit-right xs ys k =
-    let q : (8 * length xs + k) / 8 ≡ length xs + k / 8 = omega arith in
-    let p : (8 * length xs + k) % 8 ≡ k % 8 = omega arith in
-    rw (q, p, getD-append-add xs ys (k / 8) 0)
 
 -- the CRC after four more bytes
 four-more : (xs ys : List ℕ) → length ys ≡ 4 → crc32 (xs ++ ys) ≡ zeros 32 (bitXor (crc32 xs) (num (bit ys) 0 32))
@@ -57,7 +47,7 @@ be32-word a b c d ha hb hc hd =
     let t : word a b c d % 256 ≡ d = omega arith in
     rw (p, q, r, t)
 
-pub be32-bytes : (n : ℕ) → Bytes (be32 n)
+pub be32-bytes : (n : ℕ) → AreBytes (be32 n)
 unfolding be32
 be32-bytes n zero = omega arith
 be32-bytes n (suc zero) = omega arith
@@ -71,7 +61,7 @@ be32-num n h =
     let a : n / 2 ^ 24 % 256 ≡ n / 2 ^ 24 = omega arith in
     let b : n / 2 ^ 24 * 256 + n / 2 ^ 16 % 256 ≡ n / 2 ^ 16 = omega (arith, shr-shr n 16 8) in
     let c : n / 2 ^ 16 * 256 + n / 2 ^ 8 % 256 ≡ n / 2 ^ 8 = omega (arith, shr-shr n 8 8) in
-    word-num (be32 n) (be32-bytes n) 0 ∙ omega arith
+    num-word (be32 n) (be32-bytes n) 0 ∙ omega arith
 
 -- ---- the laws
 
@@ -90,10 +80,10 @@ last-num xs ys e z =
     (zeros-back 32 (bitXor (crc32 xs) w) (xor-lt 32 (crc32 xs) w (crc32-lt xs) (num-lt (bit ys) (bit-lt ys) 0 32))
     (sym (four-more xs ys e) ∙ z))
 
-pub residue-only : (xs ys : List ℕ) → length ys ≡ 4 → Bytes ys → crc32 (xs ++ ys) ≡ 0 → ys ≡ be32 (crc32 xs)
+pub residue-only : (xs ys : List ℕ) → length ys ≡ 4 → AreBytes ys → crc32 (xs ++ ys) ≡ 0 → ys ≡ be32 (crc32 xs)
 residue-only xs (a ∷ b ∷ c ∷ d ∷ []) e h z =
     sym
-    (ap be32 (last-num xs (a ∷ b ∷ c ∷ d ∷ []) e z ∙ word-num (a ∷ b ∷ c ∷ d ∷ []) h 0)
+    (ap be32 (last-num xs (a ∷ b ∷ c ∷ d ∷ []) e z ∙ num-word (a ∷ b ∷ c ∷ d ∷ []) h 0)
     ∙ be32-word a b c d (h 0) (h 1) (h 2) (h 3))
 residue-only xs [] e h z = absurd (omega arith)
 residue-only xs (a ∷ []) e h z = absurd (omega arith)
@@ -102,7 +92,7 @@ residue-only xs (a ∷ b ∷ c ∷ []) e h z = absurd (omega arith)
 residue-only xs (a ∷ b ∷ c ∷ d ∷ x ∷ ys) e h z = absurd (omega arith)
 
 -- the same of bytes that are not taken apart: the last four are the CRC of those before, and conversely
-pub last-four : (s : List ℕ) → Bytes s → 4 ≤ length s → crc32 s ≡ 0
+pub last-four : (s : List ℕ) → AreBytes s → 4 ≤ length s → crc32 s ≡ 0
     → drop (length s - 4) s ≡ be32 (crc32 (take (length s - 4) s))
 last-four s h l z =
     let n = length s - 4 in

@@ -9,8 +9,8 @@ use lib.Dec.{T}
 use mir.Val.{hasKey}
 use types.Run.{OneOf, hit}
 use borrow.Author.Tests.{ne-eqb}
+use Rattle.bits.proofs.Cases.{and-left, and-right}
 use Rattle.grammar.specs.Meaning.{isAmong}
-use Rattle.descriptors.proofs.Bools.{and-left, and-right}
 
 -- the test holds of each of these
 abbrev pub every : (ℕ → Bool) → List ℕ → Bool

@@ -1,11 +1,4 @@
-pub mod Bools
 pub mod Keys
-pub mod Places
-pub mod Rows
-pub mod Scope
-pub mod Inside
-pub mod Plain
 pub mod ByKind
-pub mod Frames
 pub mod Walk
 pub mod Loop

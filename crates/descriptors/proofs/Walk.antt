@@ -19,9 +19,9 @@ use Rattle.descriptors.specs.declared.Kind.{Kind}
 use Rattle.descriptors.specs.declared.Step.{Step}
 use Rattle.descriptors.specs.declared.Step.the-variants.{Descriptor, Done, Broken}
 use Rattle.descriptors.specs.Walk.{kindOf, found, stepOf}
-use Rattle.descriptors.proofs.Scope.{scoped, same-run}
-use Rattle.descriptors.proofs.Plain.{plain, breach-bare}
-use Rattle.descriptors.proofs.Frames.{fields-end, frame-end}
+use Rattle.grammar.proofs.Scope.{scoped, same-run}
+use Rattle.grammar.proofs.Plain.{plain, breach-bare}
+use Rattle.grammar.proofs.Frames.{fields-end, frame-end}
 
 -- ---- Table 17 itself
 

@@ -1,13 +1,14 @@
 -- Where a reading ends, by any grammar: within its frame, after as many bits as its trace covers, and the same whatever bits lie
 -- outside. A sweep never runs out of steps.
 -- Assumes nothing.
-use mathlib.Core.Path.{_≡_, refl, sym, ap, ap₂, _∙_, subst, fun-ext}
+use mathlib.Core.Path.{_≡_, refl, ap, ap₂, _∙_, subst, fun-ext}
 use mathlib.Core.Bool.{Bool, true, false, cond}
 use mathlib.Core.List.{List, [], _++_}
 use Prim.Native.Nat.{ℕ, zero, suc, _+_, _-_, _≤_, _<_}
 use native.Mathlib.Omega.{arith}
 use lib.Dec.{leb, ltb, eqb}
 use borrow.Author.Tests.{ltb-true, leb-false, eqb-true, le-leb, lt-leb}
+use Rattle.bits.proofs.Cases.{cond-same}
 use Rattle.grammar.specs.Syntax.{Item, Prog, fill}
 use Rattle.grammar.specs.Meaning.{Env, width, values, bind, Reading, broken, reached, after, then, sweep, exactly, numbered, read}
 use Rattle.grammar.specs.Traces.{Trace, rowsOf, size, spans}
@@ -57,7 +58,7 @@ record Goes (f : ℕ → ℕ) (end k j : ℕ) (t : Trace) : Type 0 where
 
 -- nothing read ends where it starts
 none : (f : ℕ → ℕ) (end k : ℕ) → Goes f end k k []
-unfolding rowsOf width
+unfolding rowsOf
 none f end k = record { far = omega arith; inside = λ h. h; spanned = tt }
 
 -- two readings one after the other
@@ -155,10 +156,6 @@ pub bits-outside : (p : Prog) (env : Env) (f g : ℕ → ℕ) (end k : ℕ) → 
 bits-outside p env f g end k = along p env end k .same f g
 
 -- ---- a sweep
-
-cond-same : {A : Type 0} (b : Bool) {x x′ y y′ : A} → (b ≡ true → x ≡ x′) → (b ≡ false → y ≡ y′) → cond b x y ≡ cond b x′ y′
-cond-same true h l = h refl
-cond-same false h l = l refl
 
 -- with as many steps as bits are left, or more, it does not matter how many: a sweep never runs out
 pub sweep-steps : (n m : ℕ) (g : ℕ → Reading) (end k : ℕ) → end - k ≤ n → end - k ≤ m → sweep n g end k ≡ sweep m g end k

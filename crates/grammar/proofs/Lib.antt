@@ -4,5 +4,8 @@ pub mod Traces
 pub mod Induction
 pub mod Ends
 pub mod Within
+pub mod Frames
+pub mod Scope
+pub mod Plain
 pub mod RoundTrip
 pub mod Reserved

@@ -69,7 +69,7 @@ ahead-one x t (wrote j u rest) = refl
 -- rows take their own numbers
 rows-write : (rows : List Item) (f : ℕ → ℕ) → Bits f → (k : ℕ) (env : Env) (h : Env → List ℕ → Writing) (rest : List ℕ)
     → writeRows rows env (numbers (values rows f k) ++ rest) h ≡ ahead (values rows f k) (h (bind rows f k env) rest)
-unfolding values bind numbers writeRows
+unfolding values numbers writeRows
 rows-write [] f b k env h rest = sym (ahead-none (h env rest))
 rows-write (i ∷ rows) f b k env h rest =
     let v : ℕ = num f k (widthOf i) in
@@ -140,7 +140,7 @@ record Reads (k : ℕ) (r : (ℕ → ℕ) → Reading) (xs : List ℕ) (j : ℕ)
   back : (f : ℕ → ℕ) → namedSpans f k t → r f ≡ reached j (values (rowsOf t) f k)
 
 reads-none : (k : ℕ) (xs : List ℕ) → Reads k (λ f. reached k []) xs k [] xs
-unfolding numbers rowsOf width values
+unfolding numbers rowsOf values
 reads-none k xs = record { uses = record { far = omega arith; used = refl; fit = tt }; back = λ f s. refl }
 
 next-reads : {k : ℕ} {r : (ℕ → ℕ) → Reading} {g : (ℕ → ℕ) → ℕ → Reading} {xs : List ℕ} {w : Writing} {h : ℕ → List ℕ → Writing}
@@ -187,7 +187,7 @@ after-one x t (reached j u) = refl
 rows-read : (rows : List Item) (k : ℕ) (env : Env) (g : Env → (ℕ → ℕ) → Reading) (h : Env → List ℕ → Writing)
     → ((env′ : Env) (ys : List ℕ) → Makes (Reads (k + width rows) (g env′) ys) (h env′ ys))
     → (xs : List ℕ) → Makes (Reads k (λ f. after (values rows f k) (g (bind rows f k env) f)) xs) (writeRows rows env xs h)
-unfolding width values bind writeRows rowsOf numbers after
+unfolding values writeRows rowsOf numbers after
 rows-read [] k env g h l xs =
     map-makes (rw add-zero at (l env xs)) (λ j t rest c. record { uses = c .uses; back = λ f s. ap (after []) (c .back f s) })
 rows-read (i ∷ rows) k env g h l [] = refuses
@@ -303,7 +303,7 @@ num-decides f g b c k (suc w) e i h l =
 -- bits that make the same trace agree at each place that it covers
 pub trace-decides : (f g : ℕ → ℕ) → Bits f → Bits g → (k : ℕ) (t : Trace) → spans f k t → spans g k t
     → (i : ℕ) → k ≤ i → i < k + size t → f i ≡ g i
-unfolding rowsOf width
+unfolding rowsOf
 trace-decides f g b c k [] s u i h l = absurd (omega arith)
 trace-decides f g b c k (x ∷ t) s u i h l =
     ⊎-elim

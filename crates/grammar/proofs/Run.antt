@@ -9,10 +9,10 @@ use Prim.Native.String.{String}
 use native.Mathlib.Nat.{suc-mul}
 use native.Mathlib.Omega.{arith}
 use lib.Dec.{leb, ltb, eqb}
-use borrow.Author.Tests.{le-leb, lt-leb, lt-ltb, le-ltb, eq-eqb, ne-eqb}
-use Rattle.bits.proofs.Cases.{le-or-lt}
-use Rattle.grammar.specs.Syntax.{Item, Test, Prog, field, reserved, is, among, more, done, stop, fields, branch, call, repeat, frame, fill, under}
-use Rattle.grammar.specs.Meaning.{Env, valueOf, widthOf, width, values, bind, holds, Reading, broken, reached, after, then, again, sweep, exactly, numbered, read, Outcome, breach, ends, endOf, run}
+use borrow.Author.Tests.{le-leb, lt-leb, lt-ltb, le-ltb, ltb-true, eq-eqb, ne-eqb}
+use Rattle.bits.proofs.Cases.{cond-same, le-or-lt}
+use Rattle.grammar.specs.Syntax.{Item, Test, Prog, field, more, done, stop, fields, branch, call, repeat, frame, fill, under}
+use Rattle.grammar.specs.Meaning.{Env, valueOf, width, values, bind, holds, Reading, broken, reached, after, then, again, sweep, exactly, numbered, read, Outcome, breach, ends, endOf, run}
 
 -- the run of p from place k ends as o says
 pub record Runs (p : Prog) (env : Env) (f : ℕ → ℕ) (end k : ℕ) (o : Outcome) : Type 0 where
@@ -126,6 +126,13 @@ yes-last {t} {a} {b} {env} {f} {end} {k} {o} h r = yes h r (on-done env f end o)
 pub no-last : {t : Test} {a b : Prog} {env : Env} {f : ℕ → ℕ} {end k : ℕ} {o : Outcome} → holds t env end k ≡ false
     → Runs b env f end k o → Runs (branch t a b done) env f end k o
 no-last {t} {a} {b} {env} {f} {end} {k} {o} h r = no h r (on-done env f end o)
+
+-- something is left of the part, or nothing
+pub more-left : {a b : Prog} {env : Env} {f : ℕ → ℕ} {end k : ℕ} {o : Outcome} → k < end → Runs a env f end k o → Runs (branch more a b done) env f end k o
+more-left {a} {b} {env} {f} {end} {k} h r = yes-last (lt-ltb k end h) r
+
+pub none-left : {a b : Prog} {env : Env} {f : ℕ → ℕ} {end k : ℕ} {o : Outcome} → end ≤ k → Runs b env f end k o → Runs (branch more a b done) env f end k o
+none-left {a} {b} {env} {f} {end} {k} h r = no-last (le-ltb k end h) r
 
 pub called-last : {a : Prog} {env : Env} {f : ℕ → ℕ} {end k : ℕ} {o : Outcome} → Runs a env f end k o → Runs (call a done) env f end k o
 called-last {a} {env} {f} {end} {k} {o} r = called r (on-done env f end o)
@@ -259,18 +266,6 @@ abbrev pub sweeps : ℕ → (ℕ → Outcome) → ℕ → ℕ → Outcome
 sweeps zero g end k = cond (leb end k) (ends k) (breach 0)
 sweeps (suc n) g end k = cond (leb end k) (ends k) (on (g k) (λ j. cond (ltb k j) (sweeps n g end j) (breach 0)))
 
--- one step of two sweeps that agree from then on
-step-same : (k : ℕ) (o : Outcome) (u v : ℕ → Outcome) → ((j : ℕ) → k < j → u j ≡ v j)
-    → on o (λ j. cond (ltb k j) (u j) (breach 0)) ≡ on o (λ j. cond (ltb k j) (v j) (breach 0))
-step-same k (breach n) u v h = refl
-step-same k (ends j) u v h = ⊎-elim stuck further (le-or-lt j k)
-  where
-    stuck : j ≤ k → cond (ltb k j) (u j) (breach 0) ≡ cond (ltb k j) (v j) (breach 0)
-    stuck l = ap (λ (t : Bool). cond t (u j) (breach 0)) (le-ltb k j l) ∙ sym (ap (λ (t : Bool). cond t (v j) (breach 0)) (le-ltb k j l))
-
-    further : k < j → cond (ltb k j) (u j) (breach 0) ≡ cond (ltb k j) (v j) (breach 0)
-    further l = ap (λ (x : Outcome). cond (ltb k j) x (breach 0)) (h j l)
-
 sweeps-end : (n : ℕ) (g : ℕ → Outcome) (end k : ℕ) → end ≤ k → sweeps n g end k ≡ ends k
 sweeps-end zero g end k h = ap (λ (t : Bool). cond t (ends k) (breach 0)) (le-leb end k h)
 sweeps-end (suc n) g end k h = ap (λ (t : Bool). cond t (ends k) (on (g k) (λ j. cond (ltb k j) (sweeps n g end j) (breach 0)))) (le-leb end k h)
@@ -281,7 +276,8 @@ enough zero m g end k h l = sweeps-end zero g end k (omega arith) ∙ sym (sweep
 enough (suc n) zero g end k h l = sweeps-end (suc n) g end k (omega arith) ∙ sym (sweeps-end zero g end k (omega arith))
 enough (suc n) (suc m) g end k h l =
     ap (λ (x : Outcome). cond (leb end k) (ends k) x)
-    (step-same k (g k) (sweeps n g end) (sweeps m g end) (λ j further. enough n m g end j (omega arith) (omega arith)))
+    (on-same (g k) _ _
+    (λ j. cond-same (ltb k j) (λ c. let further : k < j = ltb-true k j c in enough n m g end j (omega arith) (omega arith)) (λ c. refl)))
 
 -- a sweep with as many steps as it may need
 abbrev pub swept : (ℕ → Outcome) → ℕ → ℕ → Outcome

@@ -14,7 +14,7 @@ use Rattle.grammar.specs.Traces.{Trace, rowsOf, size, numbers, spans, ke
 -- ---- of some rows
 
 pub size-values : (rows : List Item) (f : ℕ → ℕ) (k : ℕ) → size (values rows f k) ≡ width rows
-unfolding values rowsOf width
+unfolding values rowsOf
 size-values [] f k = refl
 size-values (i ∷ rows) f k = ap (λ (n : ℕ). widthOf i + n) (size-values rows f (k + widthOf i))
 
@@ -26,7 +26,7 @@ spans-values (i ∷ rows) f k = (refl, spans-values rows f (k + widthOf i))
 -- bits that agree give rows the same values and names the same meaning
 pub rows-ext : (f g : ℕ → ℕ) (rows : List Item) (k : ℕ) (env : Env) → ((i : ℕ) → k ≤ i → i < k + width rows → f i ≡ g i)
     → (values rows f k ≡ values rows g k) × (bind rows f k env ≡ bind rows g k env)
-unfolding width values bind
+unfolding values
 rows-ext f g [] k env h = (refl, refl)
 rows-ext f g (i ∷ rows) k env h =
     let k′ : ℕ = k + widthOf i in
@@ -37,7 +37,7 @@ rows-ext f g (i ∷ rows) k env h =
 -- ---- one after another
 
 pub size-append : (u v : Trace) → size (u ++ v) ≡ size u + size v
-unfolding rowsOf width
+unfolding rowsOf
 size-append [] v = omega arith
 size-append (x ∷ u) v = omega (arith, size-append u v)
 
@@ -47,19 +47,19 @@ numbers-append [] v = refl
 numbers-append (x ∷ u) v = ap (λ (l : List ℕ). x .1 ∷ l) (numbers-append u v)
 
 pub spans-append : (f : ℕ → ℕ) (k : ℕ) (u v : Trace) → spans f k u → spans f (k + size u) v → spans f k (u ++ v)
-unfolding rowsOf width
+unfolding rowsOf
 spans-append f k [] v h l = rw add-zero at l
 spans-append f k (x ∷ u) v h l = (h .0, spans-append f (k + widthOf (x .0)) u v (h .1) (rw add-assoc l))
 
 pub named-append : (f : ℕ → ℕ) (k : ℕ) (u v : Trace) → namedSpans f k (u ++ v) → namedSpans f k u × namedSpans f (k + size u) v
-unfolding rowsOf width
+unfolding rowsOf
 named-append f k [] v h = (tt, rw add-zero h)
 named-append f k (x ∷ u) v h =
     let more = named-append f (k + widthOf (x .0)) u v (h .1) in
     ((h .0, more .0), rw (← add-assoc) (more .1))
 
 pub reread-append : (f : ℕ → ℕ) (k : ℕ) (u v : Trace) → values (rowsOf (u ++ v)) f k ≡ values (rowsOf u) f k ++ values (rowsOf v) f (k + size u)
-unfolding rowsOf width values
+unfolding rowsOf values
 reread-append f k [] v = rw add-zero
 reread-append f k (x ∷ u) v =
     ap (λ (t : Trace). (x .0, num f k (widthOf (x .0))) ∷ t) (reread-append f (k + widthOf (x .0)) u v ∙ rw add-assoc)
@@ -83,7 +83,6 @@ spans-named f k (x ∷ t) h = (equal (x .0) (h .0), spans-named f (k + widthOf (
 
 -- the environment sees named values alone
 pub bind-named : (i : Item) (v v′ : ℕ) (env : Env) → keeps i v v′ → bindOne i v env ≡ bindOne i v′ env
-unfolding bindOne
 bind-named (field w n) v v′ env e = ap (λ (y : ℕ). (n, y) ∷ env) e
 bind-named (reserved w) v v′ env e = refl
 

@@ -9,9 +9,9 @@ use native.Mathlib.Omega.{arith}
 use lib.ListN.{length, getD}
 use lib.Dec.{ltb, eqb}
 use borrow.Author.Tests.{lt-ltb, le-ltb, eq-eqb, ne-eqb}
-use Rattle.bits.specs.Bits.{bit, num}
+use Rattle.bits.specs.Bits.{bit}
 use Rattle.bits.proofs.Bytes.{AreBytes}
-use Rattle.bits.proofs.Cases.{le-or-lt}
+use Rattle.bits.proofs.Cases.{or-left, or-right, le-or-lt}
 use Rattle.grammar.proofs.Places.{flag-test, octet}
 use Rattle.grammar.specs.Meaning.{bind, run, Outcome, ends}
 use Rattle.grammar.specs.Tables.{header, payload, splice-info-section}
@@ -23,12 +23,6 @@ use Rattle.units.proofs.Numbers.{number-only}
 use Rattle.units.proofs.Rows.{Row, none, miss, hit}
 use Rattle.section.specs.declared.Verdict.the-variants.{Accepted, Refused}
 use Rattle.section.specs.Accept.{the, grammarOf, breaks, complete, judged, grammatical, verdict}
-
-or-left : (a b : Bool) → a ≡ true → (a || b) ≡ true
-or-left a b e = ap (λ (t : Bool). t || b) e
-
-or-right : (a b : Bool) → a ≡ false → b ≡ true → (a || b) ≡ true
-or-right a b e q = ap₂ (λ (t u : Bool). t || u) e q
 
 module _ (s : List ℕ) (hs : AreBytes s) where
   table-id : (b : Bool) → eqb (getD s 0 0) 0xFC ≡ b → not (eqb (the s "table_id") 0xFC) ≡ not b

@@ -8,8 +8,8 @@ use native.Mathlib.Omega.{arith}
 use lib.Dec.{ltb}
 use lib.ListN.{length, getD, take}
 use borrow.Author.Tests.{lt-ltb, ltb-true}
+use Rattle.bits.proofs.Cases.{is-false, and-left, and-right}
 use Rattle.text.specs.Text.{sextet, allOf}
-use Rattle.text.proofs.Truth.{is-false, both}
 
 pub all-each : (t : List ℕ) (n : ℕ) → n ≤ length t → ((i : ℕ) → i < n → sextet (getD t i 0) < 64)
     → allOf (take n t) ≡ true
@@ -21,9 +21,9 @@ all-each (c ∷ t) (suc n) h each =
 
 pub all-at : (t : List ℕ) (n i : ℕ) → i < n → n ≤ length t → allOf (take n t) ≡ true → sextet (getD t i 0) < 64
 unfolding allOf
-all-at (c ∷ t) (suc n) zero l h e = ltb-true (sextet c) 64 (both (ltb (sextet c) 64) (allOf (take n t)) e .0)
+all-at (c ∷ t) (suc n) zero l h e = ltb-true (sextet c) 64 (and-left (ltb (sextet c) 64) (allOf (take n t)) e)
 all-at (c ∷ t) (suc n) (suc i) l h e =
-    all-at t n i (omega arith) (omega arith) (both (ltb (sextet c) 64) (allOf (take n t)) e .1)
+    all-at t n i (omega arith) (omega arith) (and-right (ltb (sextet c) 64) (allOf (take n t)) e)
 all-at [] n i l h e = absurd (omega arith)
 
 pub all-not : (t : List ℕ) (n i : ℕ) → i < n → n ≤ length t → 64 ≤ sextet (getD t i 0) → allOf (take n t) ≡ false

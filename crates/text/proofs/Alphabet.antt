@@ -7,8 +7,8 @@ use native.Mathlib.Omega.{arith}
 use native.Mathlib.Decide.{decLt}
 use lib.Dec.{leb, eqb}
 use borrow.Author.Tests.{lt-ltb, le-ltb, le-leb, lt-leb, ne-eqb, leb-true, eqb-true}
+use Rattle.bits.proofs.Cases.{is-false, and-left, and-right, all-below}
 use Rattle.text.specs.Text.{character, sextet}
-use Rattle.text.proofs.Truth.{is-false, both, all-below}
 
 -- ---- from a character
 
@@ -18,7 +18,7 @@ within a b c h k = rw (le-leb a c h, le-leb c b k)
 without : (a b c : ℕ) → (a ≤ c → c ≤ b → ⊥) → (leb a c && leb c b) ≡ false
 without a b c h =
     is-false (leb a c && leb c b)
-    (λ e. let halves = both (leb a c) (leb c b) e in h (leb-true a c (halves .0)) (leb-true c b (halves .1)))
+    (λ e. h (leb-true a c (and-left (leb a c) (leb c b) e)) (leb-true c b (and-right (leb a c) (leb c b) e)))
 
 pub upper : (c : ℕ) → 65 ≤ c → c ≤ 90 → sextet c ≡ c - 65
 unfolding sextet

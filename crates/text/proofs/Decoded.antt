@@ -1,46 +1,26 @@
--- The bytes of a text, seen as a byte list: their number, each of them, and their bits, which are those of the text.
+-- The bytes of a text, seen as a byte list: their number, and their bits, which are those of the text.
 -- Assumes nothing.
-use mathlib.Core.Path.{_≡_, sym, ap, ap₂, _∙_}
+use mathlib.Core.Path.{_≡_, sym, ap, _∙_}
 use mathlib.Core.List.{List}
-use Prim.Native.Nat.{ℕ, _+_, _-_, _*_, _/_, _%_, _^_, _<_}
-use native.Mathlib.Nat.{zero-add}
+use Prim.Native.Nat.{ℕ, _+_, _-_, _*_, _%_, _<_}
 use native.Mathlib.Decide.{decLt}
 use native.Mathlib.Omega.{arith}
-use lib.ListN.{length, getD, List·getD-eq-default}
-use Rattle.bits.specs.Bits.{bit, num, byteOf, bytesOf}
-use Rattle.bits.proofs.Num.{num-lt}
+use lib.ListN.{length}
+use Rattle.bits.specs.Bits.{bit}
+use Rattle.bits.proofs.Digits.{zero-each}
+use Rattle.bits.proofs.Bytes.{bit-past, length-bytesOf, bit-bytesOf}
 use Rattle.text.specs.Text.{before, textBit, count, decoded, spare}
 use Rattle.text.proofs.Counts.{all-bits}
-use Rattle.text.proofs.Digits.{bit-of, zero-each}
-use Rattle.text.proofs.Fill.{length-run, getD-run}
-use Rattle.text.proofs.TextBits.{textBit-bits, bit-past}
-
--- every element is a byte
-abbrev pub Bytes : List ℕ → Type 0
-Bytes s = (i : ℕ) → getD s i 0 < 256
+use Rattle.text.proofs.TextBits.{textBit-bits}
 
 module _ (t : List ℕ) where
   pub length-decoded : length (decoded t) ≡ count t
-  unfolding decoded bytesOf
-  length-decoded = length-run (byteOf (textBit t)) 0 (count t)
-
-  pub decoded-at : (i : ℕ) → i < count t → getD (decoded t) i 0 ≡ num (textBit t) (8 * i) 8
-  unfolding decoded bytesOf byteOf
-  decoded-at i h = getD-run (byteOf (textBit t)) 0 (count t) i h ∙ ap (byteOf (textBit t)) (zero-add i)
-
-  pub decoded-small : Bytes (decoded t)
-  decoded-small i =
-      elim (decLt i (count t)) [
-        | yes h ↦ omega (arith, decoded-at i h, num-lt (textBit t) (textBit-bits t) (8 * i) 8)
-        | no h ↦ omega (arith, List·getD-eq-default (decoded t) 0 {n = i} (omega (arith, length-decoded)))
-      ]
+  unfolding decoded
+  length-decoded = length-bytesOf (textBit t) (count t)
 
   within : (k : ℕ) → k < 8 * count t → bit (decoded t) k ≡ textBit t k
-  unfolding bit
-  within k l =
-      ap₂ (λ (x y : ℕ). x / 2 ^ y % 2) {v = 8 - (k % 8 + 1)} (decoded-at (k / 8) (omega arith)) (omega arith)
-      ∙ bit-of (textBit t) (textBit-bits t) (8 * (k / 8)) 8 (k % 8) (omega arith)
-      ∙ ap (textBit t) (omega arith)
+  unfolding decoded
+  within = bit-bytesOf (textBit t) (textBit-bits t) (count t)
 
   past : spare t ≡ 0 → (j : ℕ) → j < 6 * before t % 8 → textBit t (8 * count t + j) ≡ 0
   unfolding spare

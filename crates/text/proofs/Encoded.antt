@@ -9,13 +9,13 @@ use native.Mathlib.Omega.{arith}
 use lib.ListN.{length, getD}
 use Rattle.bits.specs.Bits.{bit, num}
 use Rattle.bits.proofs.Num.{num-lt}
+use Rattle.bits.proofs.Digits.{bit-of}
+use Rattle.bits.proofs.Bytes.{bit-lt, length-run, getD-run}
 use Rattle.text.specs.Text.{sextet, padding, before, textBit, count, textLength, characterAt, encoded}
 use Rattle.text.proofs.Alphabet.{sextet-character, outside}
 use Rattle.text.proofs.Counts.{count-is, inside}
-use Rattle.text.proofs.Digits.{bit-of}
-use Rattle.text.proofs.Fill.{length-run, getD-run}
 use Rattle.text.proofs.Padding.{padding-none, padding-one, padding-two, padding-empty}
-use Rattle.text.proofs.TextBits.{bit-bits, characterAt-in, characterAt-past}
+use Rattle.text.proofs.TextBits.{characterAt-in, characterAt-past}
 
 module _ (s : List ℕ) where
   pub length-encoded : length (encoded s) ≡ textLength s
@@ -36,12 +36,12 @@ module _ (s : List ℕ) where
       → sextet (getD (encoded s) i 0) ≡ num (bit s) (6 * i) 6
   sextet-of i l h =
       ap sextet (encoded-at i l ∙ characterAt-in s i h)
-      ∙ sextet-character (num (bit s) (6 * i) 6) (num-lt (bit s) (bit-bits s) (6 * i) 6)
+      ∙ sextet-character (num (bit s) (6 * i) 6) (num-lt (bit s) (bit-lt s) (6 * i) 6)
 
   -- such a character is no `=`
   letter : (i : ℕ) → i < length (encoded s) → 6 * i < 8 * length s → getD (encoded s) i 0 ≡ 61 → ⊥
   letter i l h e =
-      omega (arith, sextet-of i l h, ap sextet e, outside 61 (omega arith), num-lt (bit s) (bit-bits s) (6 * i) 6)
+      omega (arith, sextet-of i l h, ap sextet e, outside 61 (omega arith), num-lt (bit s) (bit-lt s) (6 * i) 6)
 
   pad : (i : ℕ) → i < length (encoded s) → 8 * length s ≤ 6 * i → getD (encoded s) i 0 ≡ 61
   pad i l h = encoded-at i l ∙ characterAt-past s i h
@@ -80,5 +80,5 @@ module _ (s : List ℕ) where
       let i = k / 6 in
       let within : 6 * i < 8 * length s = omega (arith, inside (encoded s) encoded-whole i (omega arith), count-encoded) in
       ap₂ (λ (x y : ℕ). x / 2 ^ y % 2) {v = 6 - (k % 6 + 1)} (sextet-of i (omega arith) within) (omega arith)
-      ∙ bit-of (bit s) (bit-bits s) (6 * i) 6 (k % 6) (omega arith)
+      ∙ bit-of (bit s) (bit-lt s) (6 * i) 6 (k % 6) (omega arith)
       ∙ ap (bit s) (omega arith)

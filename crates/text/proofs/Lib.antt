@@ -2,7 +2,6 @@ pub mod AllOf
 pub mod Alphabet
 pub mod Counts
 pub mod Decoded
-pub mod Digits
 pub mod Encoded
 pub mod Fill
 pub mod Padding
@@ -10,5 +9,4 @@ pub mod RoundTrip
 pub mod Rows
 pub mod Spare
 pub mod TextBits
-pub mod Truth
 pub mod Vectors

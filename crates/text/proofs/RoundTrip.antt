@@ -8,31 +8,29 @@ use native.Mathlib.Decide.{decLt}
 use native.Mathlib.Omega.{arith}
 use lib.ListN.{length, getD, take, drop}
 use lib.Seq.{ext-getD, take-at}
-use Rattle.bits.specs.Bits.{bit}
+use Rattle.bits.specs.Bits.{bit, bytesOf}
 use Rattle.bits.proofs.Num.{num-lt, num-ext}
+use Rattle.bits.proofs.Digits.{zeros}
+use Rattle.bits.proofs.Bytes.{AreBytes, bit-lt, bit-past, bytesOf-bit, bytesOf-ext}
 use Rattle.units.specs.declared.refusals.Written.the-variants.{Count}
 use Rattle.text.specs.Text.{character, before, textBit, count, decoded, spare, readRow, read, readInto, textLength, encoded, write, writeInto}
 use Rattle.text.proofs.Alphabet.{character-sextet}
 use Rattle.text.proofs.AllOf.{all-each, all-at}
 use Rattle.text.proofs.Counts.{inside, as-long, all-bits, before-le}
-use Rattle.text.proofs.Decoded.{Bytes, length-decoded, decoded-at, decoded-bits}
-use Rattle.text.proofs.Digits.{zeros}
+use Rattle.text.proofs.Decoded.{length-decoded, decoded-bits}
 use Rattle.text.proofs.Encoded.{length-encoded, encoded-at, encoded-whole, sextet-of, count-encoded, encoded-bits}
 use Rattle.text.proofs.Padding.{padding-at}
 use Rattle.text.proofs.Rows.{Accepted, row-none, accepted, reads-as, writes-as, row-written}
-use Rattle.text.proofs.TextBits.{bit-bits, bit-past, byte-whole, sextet-whole, characterAt-in, characterAt-past}
+use Rattle.text.proofs.TextBits.{sextet-whole, characterAt-in, characterAt-past}
 
 -- the bytes of the text of s are s
-pub decoded-encoded : (s : List ℕ) → Bytes s → decoded (encoded s) ≡ s
+pub decoded-encoded : (s : List ℕ) → AreBytes s → decoded (encoded s) ≡ s
+unfolding decoded
 decoded-encoded s small =
     let t = encoded s in
-    ext-getD 0 (decoded t) s (length-decoded t ∙ count-encoded s)
-    (λ i h.
-    let within : i < count t = omega (arith, length-decoded t) in
-    decoded-at t i within
-    ∙ num-ext (textBit t) (bit s) (8 * i) (8 * i) 8 (λ j l. encoded-bits s (8 * i + j) (omega (arith, all-bits t)))
-    ∙ byte-whole s i
-    ∙ omega (arith, small i))
+    bytesOf-ext (textBit t) (bit s) (count t) (λ k l. encoded-bits s k (omega (arith, all-bits t)))
+    ∙ ap (bytesOf (bit s)) (count-encoded s)
+    ∙ bytesOf-bit s small
 
 -- that text is accepted, where it is not too long
 pub encoded-accepted : (s : List ℕ) → length s ≤ 4096 → Accepted (encoded s)
@@ -46,7 +44,7 @@ encoded-accepted s short =
           all-each t (before t) (before-le t)
           (λ i h.
           let within : 6 * i < 8 * length s = omega (arith, inside t (encoded-whole s) i h, count-encoded s) in
-          omega (arith, sextet-of s i (omega (arith, before-le t)) within, num-lt (bit s) (bit-bits s) (6 * i) 6));
+          omega (arith, sextet-of s i (omega (arith, before-le t)) within, num-lt (bit s) (bit-lt s) (6 * i) 6));
       clean =
           zeros (textBit t) (8 * count t) (6 * before t % 8)
           (λ j h.
@@ -90,7 +88,7 @@ decoded-once t u room room′ a b e = sym (encoded-decoded t room a) ∙ ap enco
 -- ---- over what the two functions answer and leave in lent memory
 
 -- what is written as text is read back as the same bytes
-pub reads-back : (s out back : List ℕ) → Bytes s → length s ≤ 4096 → textLength s ≤ length out → length s ≤ length back
+pub reads-back : (s out back : List ℕ) → AreBytes s → length s ≤ 4096 → textLength s ≤ length out → length s ≤ length back
     → let t = take (textLength s) (writeInto s out) in
     (write s out ≡ Count (textLength s)) × (read t back ≡ Count (length s)) × (readInto t back ≡ s ++ drop (length s) back)
 reads-back s out back small short room fits =

@@ -1,15 +1,15 @@
 -- The row that applies to a text, and to bytes, from the facts that settle it; and what a text that no row refuses is known to be.
 -- Assumes nothing.
-use mathlib.Core.Path.{_≡_, refl, sym, ap}
-use mathlib.Core.Bool.{Bool, true, false, cond, not, _||_, or-true}
+use mathlib.Core.Path.{_≡_, sym, ap}
+use mathlib.Core.Bool.{true, false, not, _||_, or-true}
 use mathlib.Core.List.{List}
-use Prim.Native.Nat.{ℕ, suc, _%_, _<_, _≤_}
-use native.Mathlib.Omega.{arith}
+use Prim.Native.Nat.{ℕ, _%_, _<_, _≤_}
 use lib.Dec.{eqb, ltb}
 use lib.ListN.{length, take}
 use borrow.Author.Tests.{lt-ltb, le-ltb, eq-eqb, ne-eqb, ltb-false, eqb-true, not-false}
+use Rattle.bits.proofs.Cases.{neither}
 use Rattle.units.specs.Answers.{answer, memory}
-use Rattle.text.proofs.Truth.{neither}
+use Rattle.units.proofs.Rows.{passed}
 use Rattle.text.specs.Text.{before, count, decoded, allOf, spare, readRow, read, readInto, textLength, encoded, writeRow, write, writeInto}
 
 -- the row that applies settles the answer and the lent memory
@@ -70,10 +70,6 @@ module _ (s : List ℕ) (room : ℕ) where
   pub row-written : length s ≤ 4096 → textLength s ≤ room → writeRow s room ≡ 0
   unfolding writeRow
   row-written l h = rw (le-ltb 4096 (length s) l, le-ltb room (textLength s) h)
-
-passed : (b : Bool) (row rest : ℕ) → cond b (suc row) rest ≡ 0 → (b ≡ false) × (rest ≡ 0)
-passed true row rest e = absurd (omega arith)
-passed false row rest e = (refl, e)
 
 -- a text that is not refused is accepted
 pub accepted : (t : List ℕ) (room : ℕ) → readRow t room ≡ 0 → Accepted t

@@ -4,16 +4,16 @@ use mathlib.Core.Path.{_≡_, refl, sym, ap, ap₂, _∙_}
 use mathlib.Core.Bool.{cond}
 use mathlib.Core.List.{List}
 use Prim.Native.Nat.{ℕ, _+_, _-_, _*_, _/_, _%_, _^_, _<_, _≤_}
-use native.Mathlib.Nat.{zero-div}
 use native.Mathlib.Decide.{decLt}
 use native.Mathlib.Omega.{arith}
 use lib.Dec.{ltb}
-use lib.ListN.{length, getD, List·getD-eq-default}
+use lib.ListN.{length, getD}
 use borrow.Author.Tests.{lt-ltb, le-ltb}
 use Rattle.bits.specs.Bits.{bit, num, byteOf}
-use Rattle.bits.proofs.Num.{Bits}
+use Rattle.bits.proofs.Num.{Bits, num-part-at}
+use Rattle.bits.proofs.Digits.{digit-end, digit-whole, digit-more}
+use Rattle.bits.proofs.Bytes.{bit-lt, byte-whole, byte-more}
 use Rattle.text.specs.Text.{character, sextet, textBit, characterAt}
-use Rattle.text.proofs.Digits.{cut, digit-end, digit-whole, digit-more}
 
 module _ (t : List ℕ) where
   pub textBit-bits : Bits (textBit t)
@@ -46,31 +46,14 @@ module _ (t : List ℕ) where
       → x ≡ v / 2 ^ c → x % 256 ≡ byteOf (textBit t) i
   unfolding byteOf
   byte-cut q v i a c x is w e p =
-      rw (p, is, ← w) (cut (textBit t) textBit-bits (6 * (4 * q)) a 8 c (8 * i) e)
+      rw (p, is, ← w) (num-part-at (textBit t) textBit-bits (6 * (4 * q)) a 8 c (8 * i) e)
 
 module _ (s : List ℕ) where
-  pub bit-bits : Bits (bit s)
-  unfolding bit
-  bit-bits k = omega arith
-
-  bit-at : (n j : ℕ) → j < 8 → bit s (8 * n + j) ≡ getD s n 0 / 2 ^ (8 - (j + 1)) % 2
-  unfolding bit
-  bit-at n j h =
-      ap₂ (λ (x y : ℕ). getD s x 0 / 2 ^ y % 2) {x = (8 * n + j) / 8} {y = n} (omega arith) (omega arith)
-
-  pub bit-past : (k : ℕ) → 8 * length s ≤ k → bit s k ≡ 0
-  unfolding bit
-  bit-past k h = rw (List·getD-eq-default s 0 {n = k / 8} (omega arith), zero-div)
-
-  pub byte-whole : (n : ℕ) → num (bit s) (8 * n) 8 ≡ getD s n 0 % 256
-  byte-whole = digit-whole 8 (bit s) (λ (n : ℕ). getD s n 0) bit-at
-
   -- the bits of three bytes
   pub byte-group : (n : ℕ)
       → num (bit s) (8 * n) 24 ≡ (getD s n 0 % 256 * 256 + getD s (n + 1) 0 % 256) * 256 + getD s (n + 2) 0 % 256
   byte-group n =
-      let more = digit-more 8 (bit s) (λ (m : ℕ). getD s m 0) bit-at n in
-      omega (arith, byte-whole n, more 1, more 2)
+      omega (arith, byte-whole s n, byte-more s n 1, byte-more s n 2)
 
   pub characterAt-in : (i : ℕ) → 6 * i < 8 * length s → characterAt s i ≡ character (num (bit s) (6 * i) 6)
   unfolding characterAt
@@ -84,7 +67,7 @@ module _ (s : List ℕ) where
   pub letter-cut : (q v i a c x : ℕ) → v ≡ num (bit s) (8 * (3 * q)) 24 → a + 6 + c ≡ 24 → 6 * i ≡ 8 * (3 * q) + a
       → 6 * i < 8 * length s → x ≡ v / 2 ^ c → character (x % 64) ≡ characterAt s i
   letter-cut q v i a c x is w e h p =
-      rw (p, is, ← w) (ap character (cut (bit s) bit-bits (8 * (3 * q)) a 6 c (6 * i) e))
+      rw (p, is, ← w) (ap character (num-part-at (bit s) (bit-lt s) (8 * (3 * q)) a 6 c (6 * i) e))
       ∙ sym (characterAt-in i h)
 
   -- the third character of a last group of r bytes

@@ -3,7 +3,8 @@
 use mathlib.Core.Path.{_≡_, refl, ap, _∙_}
 use mathlib.Core.Bool.{Bool, true, false, cond}
 use mathlib.Core.List.{List, [], _∷_}
-use Prim.Native.Nat.{ℕ}
+use Prim.Native.Nat.{ℕ, suc}
+use native.Mathlib.Omega.{arith}
 use Rattle.units.specs.Refusals.{first}
 
 -- n is the number of the first row that applies
@@ -18,3 +19,8 @@ miss {m = m} {rows = rows} e r = record { row = ap (λ (t : Bool). cond t m (fir
 
 pub hit : {b : Bool} {n : ℕ} {rows : List (Bool × ℕ)} → b ≡ true → Row ((b, n) ∷ rows) n
 hit {n = n} {rows = rows} e = record { row = ap (λ (t : Bool). cond t n (first rows)) e }
+
+-- where no row applies, the first does not, nor any of the rest
+pub passed : (b : Bool) (row rest : ℕ) → cond b (suc row) rest ≡ 0 → (b ≡ false) × (rest ≡ 0)
+passed true row rest e = absurd (omega arith)
+passed false row rest e = (refl, e)

@@ -2,7 +2,7 @@
 -- Assumes nothing.
 use borrow.Author.Needs.{needs}
 use native.Mathlib.Omega.{arith}
-use Rattle.bits.proofs.Bytes.{num-four}
+use Rattle.bits.proofs.Bytes.{num-word}
 use Rattle.bits.proofs.half.Statement.{statement}
 use Rattle.bits.proofs.half.Tie as tie
 
@@ -59,23 +59,8 @@ add-result-3 c = search needs
 
 returns : tie.Need-returns
 returns c =
-    let first = c .before .before .before .before .before .before in
-    let entry = first .before .before .before in (
-      num-four (entry .args .s .now) (entry .args .i)
-          (first .wide .result)
-          (c .before .before .before .before .wide2 .result)
-          (c .before .before .wide3 .result)
-          (c .wide4 .result)
-          (first .wide .ensures .0)
-          (c .before .before .before .before .wide2 .ensures .0)
-          (c .before .before .wide3 .ensures .0)
-          (c .wide4 .ensures .0)
-          (first .wide .ensures .1)
-          (c .before .before .before .before .wide2 .ensures .1)
-          (c .before .before .wide3 .ensures .1)
-          (c .wide4 .ensures .1),
-      omega arith,
-    )
+    let entry = c .before .before .before .before .before .before .before .before in
+    (cc (num-word (entry .before .args .s .now) (λ k. entry .shared-slice-known .given k .fits) (entry .before .args .i)), omega arith)
 
 pub half-spec : {M : Type 1} → statement M
 half-spec =

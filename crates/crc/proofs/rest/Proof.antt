@@ -5,9 +5,9 @@ use Prim.Native.Nat.{ℕ, _-_, _*_}
 use native.Mathlib.Omega.{arith}
 use lib.ListN.{length}
 use Rattle.bits.specs.Bits.{bit}
+use Rattle.bits.proofs.Bytes.{AreBytes}
 use Rattle.crc.specs.Crc.{register, crc32}
 use Rattle.crc.specs.Turns.{Passed}
-use Rattle.crc.proofs.Bytes.{Bytes}
 use Rattle.crc.proofs.Turns.{one-turn}
 use Rattle.crc.proofs.rest.Statement.{statement}
 use Rattle.crc.proofs.rest.Tie as tie
@@ -22,7 +22,7 @@ loop-again : tie.Need-loop-again Inv-loop μ-loop
 loop-again c =
     let at = c .before .before .before in
     let s = at .before .before .args .s .now in
-    let bytes : Bytes s = λ k. at .before .shared-slice-known .given k .fits in
+    let bytes : AreBytes s = λ k. at .before .shared-slice-known .given k .fits in
     record { within = omega arith; after = cc (one-turn s bytes (at .loop .i)) }
 
 returns : tie.Need-returns Inv-loop μ-loop

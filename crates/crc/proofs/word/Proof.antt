@@ -1,13 +1,13 @@
 -- `crc::word` meets its contract: four bytes make the number that their bits make. Assumes nothing.
 use native.Mathlib.Omega.{arith}
-use Rattle.crc.proofs.Bytes.{word-num}
+use Rattle.bits.proofs.Bytes.{num-word}
 use Rattle.crc.proofs.word.Statement.{statement}
 use Rattle.crc.proofs.word.Tie as tie
 
 returns : tie.Need-returns
 returns c =
     let start = c .before .before .before .before in
-    cc (word-num (start .before .args .s .now) (λ k. start .shared-slice-known .given k .fits) (start .before .args .i))
+    cc (num-word (start .before .args .s .now) (λ k. start .shared-slice-known .given k .fits) (start .before .args .i))
 
 pub word-spec : {M : Type 1} → statement M
 word-spec =

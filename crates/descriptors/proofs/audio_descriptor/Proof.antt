@@ -5,9 +5,8 @@ use Prim.Native.Nat.{_*_, _/_, _<_}
 use native.Mathlib.Omega.{arith}
 use lib.ListN.{getD}
 use Rattle.grammar.specs.Tables.{audio-descriptor}
-use Rattle.grammar.proofs.Run.{pass, short, finished}
-use Rattle.descriptors.proofs.Places.{upper}
-use Rattle.descriptors.proofs.Rows.{all-of, too-many}
+use Rattle.grammar.proofs.Run.{pass, short, finished, all-there, not-all-there}
+use Rattle.grammar.proofs.Places.{upper}
 use borrow.Author.Needs.{needs}
 use Rattle.descriptors.proofs.audio_descriptor.Statement.{statement}
 use Rattle.descriptors.proofs.audio_descriptor.Tie as tie
@@ -40,7 +39,7 @@ returns-2 c env =
     let a = c .before .before .before .args in
     let byte : getD (a .s .now) (a .at) 0 < 256 = omega (arith, c .before .shared-slice-known .given (a .at)) in
     pass (omega arith)
-    (too-many (getD (a .s .now) (a .at) 0 / 16) (upper (a .s .now) (a .at) (8 * a .at) 4 4 byte refl refl) (omega arith) (omega arith))
+    (not-all-there (getD (a .s .now) (a .at) 0 / 16) (upper (a .s .now) (a .at) (8 * a .at) 4 4 byte refl refl) (omega arith) (omega arith))
 
 add-t5 : tie.Need-add-t5
 add-t5 c = search needs
@@ -57,7 +56,7 @@ returns-3 c env =
     let a = c .before .before .before .args in
     let byte : getD (a .s .now) (a .at) 0 < 256 = omega (arith, c .before .shared-slice-known .given (a .at)) in
     pass (omega arith)
-    (all-of (getD (a .s .now) (a .at) 0 / 16) (upper (a .s .now) (a .at) (8 * a .at) 4 4 byte refl refl) (omega arith) (finished (omega arith)))
+    (all-there (getD (a .s .now) (a .at) 0 / 16) (upper (a .s .now) (a .at) (8 * a .at) 4 4 byte refl refl) (omega arith) (finished (omega arith)))
 
 pub audio-descriptor-spec : {M : Type 1} → statement M
 audio-descriptor-spec =

@@ -5,9 +5,8 @@ use Prim.Native.Nat.{_+_, _*_, _/_, _<_}
 use native.Mathlib.Omega.{arith}
 use lib.ListN.{getD}
 use Rattle.grammar.specs.Tables.{dtmf-descriptor}
-use Rattle.grammar.proofs.Run.{pass, short, finished}
-use Rattle.descriptors.proofs.Places.{upper}
-use Rattle.descriptors.proofs.Rows.{all-of, too-many}
+use Rattle.grammar.proofs.Run.{pass, short, finished, all-there, not-all-there}
+use Rattle.grammar.proofs.Places.{upper}
 use borrow.Author.Needs.{needs}
 use Rattle.descriptors.proofs.dtmf_descriptor.Statement.{statement}
 use Rattle.descriptors.proofs.dtmf_descriptor.Tie as tie
@@ -40,7 +39,7 @@ returns-2 c env =
     let a = c .before .before .before .args in
     let byte : getD (a .s .now) (a .at + 1) 0 < 256 = omega (arith, c .before .shared-slice-known .given (a .at + 1)) in
     pass (omega arith)
-    (too-many (getD (a .s .now) (a .at + 1) 0 / 32) (upper (a .s .now) (a .at + 1) (8 * a .at + 8) 3 5 byte (omega arith) refl) (omega arith)
+    (not-all-there (getD (a .s .now) (a .at + 1) 0 / 32) (upper (a .s .now) (a .at + 1) (8 * a .at + 8) 3 5 byte (omega arith) refl) (omega arith)
     (omega arith))
 
 add-t5 : tie.Need-add-t5
@@ -55,7 +54,7 @@ returns-3 c env =
     let a = c .before .before .before .args in
     let byte : getD (a .s .now) (a .at + 1) 0 < 256 = omega (arith, c .before .shared-slice-known .given (a .at + 1)) in
     pass (omega arith)
-    (all-of (getD (a .s .now) (a .at + 1) 0 / 32) (upper (a .s .now) (a .at + 1) (8 * a .at + 8) 3 5 byte (omega arith) refl) (omega arith)
+    (all-there (getD (a .s .now) (a .at + 1) 0 / 32) (upper (a .s .now) (a .at + 1) (8 * a .at + 8) 3 5 byte (omega arith) refl) (omega arith)
     (finished (omega arith)))
 
 pub dtmf-descriptor-spec : {M : Type 1} → statement M

@@ -5,7 +5,7 @@ use Prim.Native.Nat.{ℕ, _+_, _-_, _*_}
 use native.Mathlib.Omega.{arith}
 use lib.ListN.{length}
 use Rattle.bits.specs.Bits.{bit, num}
-use Rattle.descriptors.proofs.Places.{field-in-part}
+use Rattle.bits.proofs.Parts.{field-in-part}
 use borrow.Author.Needs.{needs}
 use Rattle.descriptors.proofs.identifier.Statement.{statement}
 use Rattle.descriptors.proofs.identifier.Tie as tie

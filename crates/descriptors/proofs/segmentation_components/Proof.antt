@@ -6,9 +6,8 @@ use native.Mathlib.Omega.{arith}
 use lib.ListN.{getD}
 use borrow.Author.Tests.{eq-eqb, ne-eqb}
 use Rattle.grammar.specs.Tables.{segmentation-components}
-use Rattle.grammar.proofs.Run.{pass, short, yes-last, no-last, finished}
+use Rattle.grammar.proofs.Run.{pass, short, yes-last, no-last, finished, all-there, not-all-there}
 use Rattle.grammar.proofs.Places.{octet}
-use Rattle.descriptors.proofs.Rows.{all-of, too-many}
 use borrow.Author.Needs.{needs}
 use Rattle.descriptors.proofs.segmentation_components.Statement.{statement}
 use Rattle.descriptors.proofs.segmentation_components.Tie as tie
@@ -45,7 +44,7 @@ returns-3 c env e =
     let a = c .before .before .before .before .args in
     let byte : getD (a .s .now) (a .at) 0 < 256 = omega (arith, c .before .shared-slice-known .given (a .at)) in
     yes-last (eq-eqb _ 0 (e ∙ c .before .before .before .if1 .left))
-    (pass (omega arith) (too-many (getD (a .s .now) (a .at) 0) (octet (a .s .now) (a .at) (8 * a .at) byte refl) (omega arith) (omega arith)))
+    (pass (omega arith) (not-all-there (getD (a .s .now) (a .at) 0) (octet (a .s .now) (a .at) (8 * a .at) byte refl) (omega arith) (omega arith)))
 
 add-t7 : tie.Need-add-t7
 add-t7 c = search needs
@@ -62,7 +61,7 @@ returns-4 c env e =
     let a = c .before .before .before .before .args in
     let byte : getD (a .s .now) (a .at) 0 < 256 = omega (arith, c .before .shared-slice-known .given (a .at)) in
     yes-last (eq-eqb _ 0 (e ∙ c .before .before .before .if1 .left))
-    (pass (omega arith) (all-of (getD (a .s .now) (a .at) 0) (octet (a .s .now) (a .at) (8 * a .at) byte refl) (omega arith) (finished (omega arith))))
+    (pass (omega arith) (all-there (getD (a .s .now) (a .at) 0) (octet (a .s .now) (a .at) (8 * a .at) byte refl) (omega arith) (finished (omega arith))))
 
 pub segmentation-components-spec : {M : Type 1} → statement M
 segmentation-components-spec =

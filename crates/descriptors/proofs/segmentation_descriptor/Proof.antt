@@ -1,6 +1,6 @@
 -- `descriptors::segmentation_descriptor` meets its contract: the flags' byte is whole either way, and the flags say which parts follow.
 -- Assumes nothing.
-use mathlib.Core.Path.{_≡_, refl, _∙_}
+use mathlib.Core.Path.{_≡_, refl, ap, _∙_}
 use mathlib.Core.Bool.{Bool, true, false}
 use mathlib.Core.List.{List, [], _∷_}
 use Prim.Native.Nat.{ℕ, _+_, _*_, _/_, _%_, _≤_}
@@ -10,11 +10,11 @@ use lib.ListN.{getD}
 use Rattle.bits.specs.Bits.{bit, num}
 use Rattle.grammar.specs.Syntax.{Item, Prog, fields, call}
 use Rattle.grammar.specs.Meaning.{Env, valueOf, width, bind, Outcome, ends}
+use Rattle.grammar.specs.Ended.{outcome}
 use Rattle.grammar.specs.Tables.{delivery, segmentation-components, segmentation-descriptor}
-use Rattle.grammar.proofs.Run.{Runs, pass, short, yes-last, no-last, yes, no, called, called-last, finished, at-place}
+use Rattle.grammar.proofs.Run.{Runs, pass, short, yes-last, no-last, yes, no, called, called-last, finished, at-place, becomes}
 use Rattle.grammar.proofs.Places.{flag, flag-test}
-use Rattle.descriptors.proofs.Rows.{answered}
-use Rattle.descriptors.proofs.Inside.{ends-inside}
+use Rattle.grammar.proofs.Within.{byte-within}
 use borrow.Author.Needs.{needs}
 use Rattle.descriptors.proofs.segmentation_descriptor.Statement.{statement}
 use Rattle.descriptors.proofs.segmentation_descriptor.Tie as tie
@@ -86,7 +86,7 @@ components : (c : tie.After-n) {env : Env}
     → let a = c .before .before .before .before .before .before .before .before .before .args in
     valueOf env "program_segmentation_flag" ≡ num (bit (a .s .now)) (8 * a .at + 40) 1
     → Runs segmentation-components env (bit (a .s .now)) (8 * a .end) (8 * (a .at + 6)) (ends (8 * c .n .given .0 .0))
-components c e = answered (c .n .given .1) (c .before .before .segmentation-components .ensures _ (e ∙ program-flag (c .before .before .before)))
+components c e = becomes (c .before .before .segmentation-components .ensures _ (e ∙ program-flag (c .before .before .before))) (ap outcome (c .n .given .1))
 
 within : (c : tie.After-n)
     → let a = c .before .before .before .before .before .before .before .before .before .args in
@@ -94,11 +94,7 @@ within : (c : tie.After-n)
 within c =
     let a = c .before .before .before .before .before .before .before .before .before .args in
     let flags : Env = ("program_segmentation_flag", num (bit (a .s .now)) (8 * a .at + 40) 1) ∷ [] in
-    omega (
-      arith,
-      ends-inside segmentation-components flags (bit (a .s .now)) (8 * a .end) (8 * (a .at + 6)) (8 * c .n .given .0 .0) (omega arith)
-          (components c refl .runs),
-    )
+    byte-within segmentation-components flags (bit (a .s .now)) (a .end) (a .at + 6) (c .n .given .0 .0) (components c refl .runs) (omega arith)
 
 returns-3 : tie.Need-returns-3
 unfolding segmentation-descriptor
@@ -130,7 +126,7 @@ returns-4 c env =
     let place : 8 * a .at + 40 + 3 + 5 ≡ 8 * (a .at + 6) = omega arith in
     pass (omega arith)
     (yes-last (not-cancelled (d .before .before))
-    (delivered (omega arith) (at-place place (called (answered (c .enum-told .given .1) (c .before .before .segmentation-components .ensures _ (program-flag d))) refl))))
+    (delivered (omega arith) (at-place place (called (becomes (c .before .before .segmentation-components .ensures _ (program-flag d)) (ap outcome (c .enum-told .given .1))) refl))))
 
 segmentation-end-requires : tie.Need-segmentation-end-requires
 segmentation-end-requires c κs = omega (arith, within (c .before .before))

@@ -9,9 +9,8 @@ use borrow.Author.Tests.{not-true, not-false}
 use Rattle.bits.specs.Bits.{bit, num}
 use Rattle.grammar.specs.Meaning.{isAmong}
 use Rattle.grammar.specs.Tables.{sub-segmented, segmentation-end}
-use Rattle.grammar.proofs.Run.{pass, short, yes-last, no-last, finished}
+use Rattle.grammar.proofs.Run.{pass, short, yes-last, no-last, more-left, none-left, finished, all-there, not-all-there}
 use Rattle.grammar.proofs.Places.{octet}
-use Rattle.descriptors.proofs.Rows.{all-of, too-many, more-left, none-left}
 use borrow.Author.Needs.{needs}
 use Rattle.descriptors.proofs.segmentation_end.Statement.{statement}
 use Rattle.descriptors.proofs.segmentation_end.Tie as tie
@@ -60,7 +59,7 @@ sub-segments c t e =
 
 returns-2 : tie.Need-returns-2
 unfolding segmentation-end
-returns-2 c env = pass (omega arith) (too-many _ (upid-length (c .before)) (omega arith) (omega arith))
+returns-2 c env = pass (omega arith) (not-all-there _ (upid-length (c .before)) (omega arith) (omega arith))
 
 add-n : tie.Need-add-n
 add-n c = search needs
@@ -73,7 +72,7 @@ sub-if3 c = search needs
 
 returns-3 : tie.Need-returns-3
 unfolding segmentation-end
-returns-3 c env = pass (omega arith) (all-of _ (upid-length (c .before .before)) (omega arith) (short (omega arith)))
+returns-3 c env = pass (omega arith) (all-there _ (upid-length (c .before .before)) (omega arith) (short (omega arith)))
 
 shared-slice-read-is-sub-segmented : tie.Need-shared-slice-read-is-sub-segmented
 shared-slice-read-is-sub-segmented c = search needs
@@ -89,7 +88,7 @@ unfolding segmentation-end
 returns-4 c env =
     let d = c .before .before .before .before .before in
     pass (omega arith)
-    (all-of _ (upid-length d) (omega arith) (pass (omega arith) (no-last (sub-segments (c .before) false (not-true _ (c .if4 .taken))) (finished (omega arith)))))
+    (all-there _ (upid-length d) (omega arith) (pass (omega arith) (no-last (sub-segments (c .before) false (not-true _ (c .if4 .taken))) (finished (omega arith)))))
 
 sub-if5 : tie.Need-sub-if5
 sub-if5 c = search needs
@@ -102,7 +101,7 @@ unfolding segmentation-end
 returns-5 c env =
     let d = c .before .before .before .before .before .before in
     pass (omega arith)
-    (all-of _ (upid-length d) (omega arith)
+    (all-there _ (upid-length d) (omega arith)
     (pass (omega arith)
     (yes-last (sub-segments (c .before .before) true (not-false _ (c .before .if4 .left)))
     (none-left (omega arith) (finished (omega arith))))))
@@ -115,7 +114,7 @@ unfolding segmentation-end
 returns-6 c env =
     let d = c .before .before .before .before .before .before .before in
     pass (omega arith)
-    (all-of _ (upid-length d) (omega arith)
+    (all-there _ (upid-length d) (omega arith)
     (pass (omega arith)
     (yes-last (sub-segments (c .before .before .before) true (not-false _ (c .before .before .if4 .left)))
     (more-left (omega arith) (short (omega arith))))))
@@ -128,7 +127,7 @@ unfolding segmentation-end
 returns-7 c env =
     let d = c .before .before .before .before .before .before .before in
     pass (omega arith)
-    (all-of _ (upid-length d) (omega arith)
+    (all-there _ (upid-length d) (omega arith)
     (pass (omega arith)
     (yes-last (sub-segments (c .before .before .before) true (not-false _ (c .before .before .if4 .left)))
     (more-left (omega arith) (pass (omega arith) (finished (omega arith)))))))

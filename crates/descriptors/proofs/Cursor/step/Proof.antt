@@ -11,12 +11,10 @@ use Rattle.grammar.specs.Meaning.{Env, valueOf, ends}
 use Rattle.grammar.specs.Tables.{bytes, known-descriptor, splice-descriptor}
 use Rattle.grammar.specs.declared.Ended.{Ended}
 use Rattle.grammar.specs.Ended.{outcome}
-use Rattle.grammar.proofs.Run.{Runs, pass, short, framed, frame-short, at-place}
+use Rattle.grammar.proofs.Run.{Runs, pass, short, finished, framed-all, framed-left, framed-off, frame-short, at-place, becomes}
 use Rattle.grammar.proofs.Places.{octet}
 use Rattle.descriptors.specs.declared.Kind.{Kind}
 use Rattle.descriptors.specs.declared.Step.the-variants.{Descriptor}
-use Rattle.descriptors.proofs.Rows.{answered}
-use Rattle.descriptors.proofs.Frames.{framed-whole, framed-part}
 use Rattle.descriptors.proofs.ByKind.{by-kind}
 use Rattle.descriptors.proofs.Walk.{nothing-left, past-bytes, broken-off, descriptor-at}
 use borrow.Author.Needs.{needs}
@@ -72,7 +70,7 @@ returns-4 c =
 returns-5 : tie.Need-returns-5
 unfolding splice-descriptor
 returns-5 c =
-    sym (broken-off _ _ (omega arith) (omega arith) (pass (omega arith) (framed (body-end (c .before .before)) (omega arith) (short (omega arith)) refl)))
+    sym (broken-off _ _ (omega arith) (omega arith) (pass (omega arith) (framed-off (body-end (c .before .before)) (omega arith) (short (omega arith)))))
 
 add-next : tie.Need-add-next
 add-next c = search needs
@@ -106,7 +104,7 @@ body c r told same tag =
     let first : 8 * a .self .at + 16 ≡ 8 * (a .self .at + 2) = omega arith in
     let place : 8 * a .self .at + 16 + 32 ≡ 8 * (a .self .at + 6) = omega arith in
     by-kind (a .s .now) (a .self .at) (same ∙ ap (λ (k : ℕ). num (bit (a .s .now)) k 32) first) tag (c .before .kind-at .ensures)
-    (at-place place (answered told (c .descriptor .ensures _)))
+    (at-place place (becomes (c .descriptor .ensures _) (ap outcome told)))
 
 returns-6 : tie.Need-returns-6
 unfolding splice-descriptor
@@ -116,8 +114,8 @@ returns-6 c =
     let next : ℕ = a .self .at + 2 + getD (a .s .now) (a .self .at + 1) 0 in
     let step : Runs splice-descriptor [] (bit (a .s .now)) (8 * a .self .end) (8 * a .self .at) (ends (8 * next)) =
     pass (omega arith)
-    (framed-whole (body-end (d .before .before .before .before)) (omega arith) (omega arith)
-    (pass (omega arith) (body d _ (c .before .before .n .given .1) refl refl))) in
+    (framed-all (body-end (d .before .before .before .before)) (omega arith)
+    (pass (omega arith) (becomes (body d _ (c .before .before .n .given .1) refl refl) (ap ends (omega arith)))) (finished refl)) in
     ap (λ (k : Kind). Descriptor k (record { at = next; end = a .self .end })) (d .before .kind-at .ensures)
     ∙ sym (descriptor-at (a .s .now) (a .self) next (omega arith) (omega arith) step)
 
@@ -128,8 +126,8 @@ returns-7 c =
     sym
     (broken-off _ _ (omega arith) (omega arith)
     (pass (omega arith)
-    (framed-part (body-end (d .before .before .before .before)) (omega arith) (λ e. c .if6 .left (omega arith))
-    (pass (omega arith) (body d _ (c .before .before .n .given .1) refl refl)))))
+    (framed-left (body-end (d .before .before .before .before)) (omega arith)
+    (pass (omega arith) (body d _ (c .before .before .n .given .1) refl refl)) (λ e. c .if6 .left (omega arith)))))
 
 returns-8 : tie.Need-returns-8
 unfolding splice-descriptor
@@ -138,7 +136,7 @@ returns-8 c =
     sym
     (broken-off _ _ (omega arith) (omega arith)
     (pass (omega arith)
-    (framed (body-end (d .before .before .before .before)) (omega arith) (pass (omega arith) (body d _ (c .enum-told .given .1) refl refl)) refl)))
+    (framed-off (body-end (d .before .before .before .before)) (omega arith) (pass (omega arith) (body d _ (c .enum-told .given .1) refl refl)))))
 
 pub step-spec : {M : Type 1} → statement M
 step-spec =

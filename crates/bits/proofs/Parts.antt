@@ -1,24 +1,30 @@
--- Fields at byte places: the upper bits of a byte, and a field of a part of the bytes.
+-- The bits of bytes put together, and of a part of them.
 -- Assumes nothing.
-use mathlib.Core.Path.{_≡_, sym, ap, ap₂, _∙_}
-use mathlib.Core.List.{List}
+use mathlib.Core.Path.{_≡_, ap, ap₂, _∙_}
+use mathlib.Core.List.{List, _++_}
 use Prim.Native.Nat.{ℕ, _+_, _-_, _*_, _/_, _%_, _^_, _≤_, _<_}
 use native.Mathlib.Omega.{arith}
-use lib.Pow.{high}
-use lib.ListN.{length, getD, take, drop, length-drop}
-use lib.Seq.{length-take-le, getD-take, getD-drop}
+use lib.ListN.{length, getD, take, drop, length-drop, List·getD-append}
+use lib.Seq.{length-take-le, getD-take, getD-drop, getD-append-add}
 use borrow.Author.Tests.{le-leb}
 use Rattle.bits.specs.Bits.{bit, num, fieldOf}
-use Rattle.bits.proofs.Num.{num-lt, num-split, num-ext}
-use Rattle.bits.proofs.Bytes.{bit-lt}
+use Rattle.bits.proofs.Num.{num-ext}
 use Rattle.bits.proofs.Within.{narrow, field-in}
-use Rattle.grammar.proofs.Places.{octet}
 
--- the upper w bits of a byte are what a shift by the others leaves
-pub upper : (s : List ℕ) (at k w c : ℕ) → getD s at 0 < 256 → k ≡ 8 * at → w + c ≡ 8 → num (bit s) k w ≡ getD s at 0 / 2 ^ c
-upper s at k w c h e whole =
-    sym (high (num (bit s) k w) c (num-lt (bit s) (bit-lt s) (k + w) c))
-    ∙ ap (λ (x : ℕ). x / 2 ^ c) (sym (num-split (bit s) k w c) ∙ ap (num (bit s) k) whole ∙ octet s at k h e)
+-- ---- put together
+
+pub bit-left : (xs ys : List ℕ) (k : ℕ) → k < 8 * length xs → bit (xs ++ ys) k ≡ bit xs k
+unfolding bit
+bit-left xs ys k h = ap (λ (b : ℕ). b / 2 ^ (7 - k % 8) % 2) (List·getD-append xs ys 0 (k / 8) (omega arith))
+
+pub bit-right : (xs ys : List ℕ) (k : ℕ) → bit (xs ++ ys) (8 * length xs + k) ≡ bit ys k
+unfolding bit
+bit-right xs ys k =
+    let q : (8 * length xs + k) / 8 ≡ length xs + k / 8 = omega arith in
+    let p : (8 * length xs + k) % 8 ≡ k % 8 = omega arith in
+    rw (q, p, getD-append-add xs ys (k / 8) 0)
+
+-- ---- a part
 
 -- a field of a part of the bytes is a field of the bytes
 pub num-in-part : (s : List ℕ) (n m k w : ℕ) → k + w ≤ 8 * m → num (bit (take m (drop n s))) k w ≡ num (bit s) (8 * n + k) w

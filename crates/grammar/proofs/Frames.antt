@@ -1,6 +1,6 @@
--- Parts of a given length at the end of a table: how a run through one ends, and what an end says of it.
+-- What the end of a run says: of rows, that they are there; and of a part at the end of a table, that it is and is used up.
 -- Assumes nothing.
-use mathlib.Core.Path.{_≡_, refl, sym, ap, _∙_}
+use mathlib.Core.Path.{_≡_, refl, sym, _∙_}
 use mathlib.Core.Bool.{Bool, true, false, cond}
 use mathlib.Core.List.{List}
 use mathlib.Core.Logic.{⊎-elim}
@@ -8,28 +8,11 @@ use Prim.Native.Nat.{ℕ, _+_, _*_, _≤_, _<_}
 use Prim.Native.String.{String}
 use native.Mathlib.Omega.{arith}
 use lib.Dec.{eqb}
-use borrow.Author.Tests.{eq-eqb, ne-eqb, eqb-true}
+use borrow.Author.Tests.{eqb-true}
 use Rattle.bits.proofs.Cases.{le-or-lt}
 use Rattle.grammar.specs.Syntax.{Item, Prog, done, fields, frame}
 use Rattle.grammar.specs.Meaning.{Env, valueOf, width, bind, Outcome, breach, ends, endOf, read, run}
-use Rattle.grammar.proofs.Run.{Runs, on, finished, pass, short, exact, framed, frame-short}
-
--- ---- how it ends
-
--- used up
-pub framed-whole : {n : String} {a : Prog} {env : Env} {f : ℕ → ℕ} {end k e j : ℕ} → k + 8 * valueOf env n ≡ e → e ≤ end
-    → j ≡ e → Runs a env f e k (ends j) → Runs (frame n a done) env f end k (ends e)
-framed-whole {env = env} {f} {end} {e = e} {j = j} size h same r =
-    framed size h r
-    (ap (λ (t : Bool). on (cond t (ends j) (breach 0)) (run done env f end)) (eq-eqb j e same) ∙ finished same .runs)
-
--- not used up
-pub framed-part : {n : String} {a : Prog} {env : Env} {f : ℕ → ℕ} {end k e j : ℕ} → k + 8 * valueOf env n ≡ e → e ≤ end
-    → (j ≡ e → ⊥) → Runs a env f e k (ends j) → Runs (frame n a done) env f end k (breach 0)
-framed-part {env = env} {f} {end} {e = e} {j = j} size h other r =
-    framed size h r (ap (λ (t : Bool). on (cond t (ends j) (breach 0)) (run done env f end)) (ne-eqb j e other))
-
--- ---- what an end says
+use Rattle.grammar.proofs.Run.{Runs, on, pass, short, exact, framed, frame-short}
 
 never : {m j : ℕ} {A : Type 0} → breach m ≡ ends j → A
 never {m} {j} e = let z : _≡_ {A = ℕ} 0 1 = cc in absurd (omega arith)

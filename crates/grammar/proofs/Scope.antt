@@ -8,9 +8,9 @@ use Prim.Native.String.{String}
 use lib.Dec.{leb, eqb}
 use lib.Text.{eqt}
 use Rattle.bits.specs.Bits.{num}
 use Rattle.grammar.specs.Syntax.{Item, Test, Prog, field, reserved, is, among, more, done, stop, fields, branch, call, repeat, frame, fill, under}
 use Rattle.grammar.specs.Meaning.{Env, valueOf, width, values, bind, isAmong, holds, Reading, broken, after, then, again, sweep, exactly, numbered, read, endOf, run}
-use Rattle.descriptors.proofs.Bools.{and-left, and-right}
+use Rattle.bits.proofs.Cases.{and-left, and-right}
 
 -- the name is one of these
 abbrev pub isIn : String → List String → Bool

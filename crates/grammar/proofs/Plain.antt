@@ -5,9 +5,9 @@ use mathlib.Core.Bool.{Bool, true, false, cond, _&&_, false≢true}
 use mathlib.Core.List.{List, []}
 use Prim.Native.Nat.{ℕ, zero, suc, _+_, _*_}
 use lib.Dec.{leb, ltb, eqb}
 use Rattle.grammar.specs.Syntax.{Item, Prog, done, stop, fields, branch, call, repeat, frame, fill, under}
 use Rattle.grammar.specs.Meaning.{Env, valueOf, width, bind, holds, Reading, broken, reached, after, then, again, sweep, exactly, read, breach, endOf, run}
-use Rattle.descriptors.proofs.Bools.{and-left, and-right}
+use Rattle.bits.proofs.Cases.{and-left, and-right}
 
 -- there is no `under` in it
 unfoldable pub plain : Prog → Bool

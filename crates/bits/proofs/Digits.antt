@@ -1,42 +1,37 @@
 -- The bits of a number make that number, and the bits of a row of digits, each of u bits, make its digits;
 -- each bit comes back out of the number that a field makes, and zeros alone make 0.
 -- Assumes nothing.
-use mathlib.Core.Path.{_≡_, sym, ap, _∙_}
+use mathlib.Core.Path.{_≡_, sym, ap, ap₂, _∙_}
 use mathlib.Core.Logic.{⊎-elim}
-use Prim.Native.Nat.{ℕ, zero, suc, _+_, _-_, _*_, _/_, _%_, _^_, _<_, _≤_}
-use native.Mathlib.Nat.{sub-self, add-zero, le-of-suc-le-suc, eq-or-lt-of-le}
+use Prim.Native.Nat.{ℕ, zero, suc, _+_, _-_, _*_, _/_, _%_, _^_, _<_}
+use native.Mathlib.Nat.{le-of-suc-le-suc, eq-or-lt-of-le}
 use native.Mathlib.Numerals.{add-one}
 use native.Mathlib.Omega.{arith}
 use lib.Pow.{mod-pow-add, shr-shr}
 use Rattle.bits.specs.Bits.{num}
-use Rattle.bits.proofs.Num.{Bits, num-zero, num-suc, num-split, num-part}
+use Rattle.bits.proofs.Num.{Bits, num-zero, num-one, num-suc, num-split, num-part}
 
-module _ (f : ℕ → ℕ) (k v w : ℕ) (each : (j : ℕ) → j < w → f (k + j) ≡ v / 2 ^ (w - (j + 1)) % 2) where
-  -- the first a of the w bits make the number without its last w - a bits
-  front : (a : ℕ) → a ≤ w → num f k a ≡ v / 2 ^ (w - a) % 2 ^ a
-  front zero h = rw num-zero (omega arith)
-  front (suc a) h =
-      let half : v / 2 ^ (w - a) ≡ v / 2 ^ (w - suc a) / 2 =
-      ap (λ (e : ℕ). v / 2 ^ e) (omega arith) ∙ sym (shr-shr v (w - suc a) 1) in
-      let last : f (k + a) ≡ v / 2 ^ (w - suc a) % 2 = each a h ∙ ap (λ (e : ℕ). v / 2 ^ e % 2) (omega arith) in
-      num-suc f k a
-      ∙ rw (front a (omega arith), half, last, ← (add-one a)) (sym (mod-pow-add (v / 2 ^ (w - (a + 1))) a 1))
-
-  pub digits : num f k w ≡ v % 2 ^ w
-  digits =
-      front w (omega arith)
-      ∙ ap (λ (e : ℕ). v / 2 ^ e % 2 ^ w) (sub-self w)
-      ∙ ap (λ (x : ℕ). x % 2 ^ w) (omega arith)
-
--- a field that lies at place p, cut out of a wider one from place k on, with a bits before it and c after it
-pub cut : (f : ℕ → ℕ) → Bits f → (k a b c p : ℕ) → p ≡ k + a → num f k (a + b + c) / 2 ^ c % 2 ^ b ≡ num f p b
-cut f h k a b c p e = num-part f h k a b c ∙ ap (λ (q : ℕ). num f q b) (sym e)
+-- the digits of a number, most significant first, make it again
+pub num-digits : (f : ℕ → ℕ) (k v w : ℕ) → ((i : ℕ) → i < w → f (k + i) ≡ v / 2 ^ (w - (i + 1)) % 2) → num f k w ≡ v % 2 ^ w
+num-digits f k v zero h = rw num-zero (omega arith)
+num-digits f k v (suc w) h =
+    let none : suc w - (w + 1) ≡ 0 = omega arith in
+    let low : f (k + w) ≡ v % 2 = h w (omega arith) ∙ ap (λ (e : ℕ). v / 2 ^ e % 2) none ∙ omega arith in
+    num-suc f k w
+    ∙ ap₂ (λ (x y : ℕ). x * 2 + y) (num-digits f k (v / 2) w (λ i m. h i (omega arith) ∙ halved i m)) low
+    ∙ sym (mod-pow-add v w 1)
+    ∙ ap (λ (e : ℕ). v % 2 ^ e) (add-one w)
+  where
+    halved : (i : ℕ) → i < w → v / 2 ^ (suc w - (i + 1)) % 2 ≡ v / 2 / 2 ^ (w - (i + 1)) % 2
+    halved i m =
+        let one-more : suc w - (i + 1) ≡ 1 + (w - (i + 1)) = omega arith in
+        ap (λ (e : ℕ). v / 2 ^ e % 2) one-more ∙ ap (λ (x : ℕ). x % 2) (sym (shr-shr v 1 (w - (i + 1))))
 
 module _ (u : ℕ) (f d : ℕ → ℕ) (each : (n j : ℕ) → j < u → f (u * n + j) ≡ d n / 2 ^ (u - (j + 1)) % 2) where
   -- the last b bits of digit n
   pub digit-end : (n a b : ℕ) → a + b ≡ u → num f (u * n + a) b ≡ d n % 2 ^ b
   digit-end n a b e =
-      digits f (u * n + a) (d n) b
+      num-digits f (u * n + a) (d n) b
       (λ j h.
       ap f (omega arith) ∙ each n (a + j) (omega arith) ∙ ap (λ (x : ℕ). d n / 2 ^ x % 2) (omega arith))
 
@@ -54,10 +49,7 @@ module _ (u : ℕ) (f d : ℕ → ℕ) (each : (n j : ℕ) → j < u → f (u * 
 pub bit-of : (f : ℕ → ℕ) → Bits f → (k w j : ℕ) → j < w → num f k w / 2 ^ (w - (j + 1)) % 2 ≡ f (k + j)
 bit-of f h k w j l =
     let c = w - (j + 1) in
-    ap (λ (x : ℕ). num f k x / 2 ^ c % 2) (omega arith)
-    ∙ num-part f h k j 1 c
-    ∙ num-suc f (k + j) 0
-    ∙ rw (num-zero, add-zero) (omega arith)
+    ap (λ (x : ℕ). num f k x / 2 ^ c % 2) (omega arith) ∙ num-part f h k j 1 c ∙ num-one f (k + j)
 
 -- bits that are all 0 make 0, and only they do
 pub zeros : (f : ℕ → ℕ) (k w : ℕ) → ((j : ℕ) → j < w → f (k + j) ≡ 0) → num f k w ≡ 0
