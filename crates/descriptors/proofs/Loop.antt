@@ -21,7 +21,7 @@ use Rattle.descriptors.specs.declared.Step.the-variants.{Descriptor, Don
 use Rattle.descriptors.specs.Walk.{stepOf}
 use Rattle.descriptors.specs.Loop.{onStep, walk, walked, traceOf, traceAt, tracesAt}
 use Rattle.descriptors.proofs.Walk.{stepped, stuck, at-end}
-use Rattle.descriptors.proofs.Scope.{scoped, same-read}
+use Rattle.grammar.proofs.Scope.{scoped, same-read}
 
 -- a reading that ends at j reached it
 reached-at : (r : Reading) (j : ℕ) → endOf r ≡ ends j → r ≡ reached j (traceOf r)
