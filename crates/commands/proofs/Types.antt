@@ -1,15 +1,13 @@
 -- The table of a command type: by its number in code, and by the tests of Table 7 in the grammar.
 -- Assumes nothing.
-use mathlib.Core.Path.{_≡_, refl, sym, ap, _∙_, subst}
-use mathlib.Core.Bool.{Bool, true, false, cond}
+use mathlib.Core.Path.{_≡_, sym, ap, subst}
 use Prim.Native.Nat.{ℕ}
-use Prim.Native.String.{String}
 use lib.Dec.{eqb}
 use borrow.Author.Tests.{ne-eqb}
-use Rattle.grammar.specs.Syntax.{Prog, is, done, branch}
+use Rattle.grammar.specs.Syntax.{Prog}
 use Rattle.grammar.specs.Meaning.{Env, valueOf, Outcome}
 use Rattle.grammar.specs.Tables.{command}
-use Rattle.grammar.proofs.Run.{Runs, yes-last, no-last}
+use Rattle.grammar.proofs.Run.{Runs, chosen}
 use Rattle.commands.specs.Command.{tableOf}
 
 module _ (p o : Prog) {env : Env} {f : ℕ → ℕ} {end k : ℕ} {out : Outcome} (t : ℕ) where
@@ -24,18 +22,16 @@ module _ (p o : Prog) {env : Env} {f : ℕ → ℕ} {end k : ℕ} {out : Outcome
   otherwise h0 h4 h5 h6 h7 hF r =
       rw (ne-eqb t 0x00 h0, ne-eqb t 0x04 h4, ne-eqb t 0x05 h5, ne-eqb t 0x06 h6, ne-eqb t 0x07 h7, ne-eqb t 0xFF hF) r
 
--- one test of the grammar's, as a test of the number
-tested : {n : String} {a b b′ : Prog} {env : Env} {f : ℕ → ℕ} {end k : ℕ} {out : Outcome} (t v : ℕ) → valueOf env n ≡ t
-    → (Runs b env f end k out → Runs b′ env f end k out) → Runs (cond (eqb t v) a b) env f end k out → Runs (branch (is n v) a b′ done) env f end k out
-tested {n} {a} {b} {b′} {env} {f} {end} {k} {out} t v e next r = go (eqb t v) refl r
-  where
-    go : (u : Bool) → eqb t v ≡ u → Runs (cond u a b) env f end k out → Runs (branch (is n v) a b′ done) env f end k out
-    go true q r = yes-last (ap (λ (x : ℕ). eqb x v) e ∙ q) r
-    go false q r = no-last (ap (λ (x : ℕ). eqb x v) e ∙ q) (next r)
-
 -- the grammar's tests find the table of the type
 pub by-type : (p o : Prog) {env : Env} {f : ℕ → ℕ} {end k : ℕ} {out : Outcome} (t : ℕ) → valueOf env "splice_command_type" ≡ t
     → Runs (tableOf t p o) env f end k out → Runs (command p o) env f end k out
 unfolding tableOf command
-by-type p o t e r =
-    tested t 0x00 e (tested t 0x04 e (tested t 0x05 e (tested t 0x06 e (tested t 0x07 e (tested t 0xFF e (λ q. q)))))) r
+by-type p o {env} t e =
+    let is-it : (v : ℕ) → eqb (valueOf env "splice_command_type") v ≡ eqb t v = λ v. ap (λ (x : ℕ). eqb x v) e in
+    let table : Prog → Prog = λ a. a in
+    chosen table (eqb t 0x00) _ _ (is-it 0x00) (λ r. r)
+    (chosen table (eqb t 0x04) _ _ (is-it 0x04) (λ r. r)
+    (chosen table (eqb t 0x05) _ _ (is-it 0x05) (λ r. r)
+    (chosen table (eqb t 0x06) _ _ (is-it 0x06) (λ r. r)
+    (chosen table (eqb t 0x07) _ _ (is-it 0x07) (λ r. r)
+    (chosen table (eqb t 0xFF) _ _ (is-it 0xFF) (λ r. r) (λ r. r))))))

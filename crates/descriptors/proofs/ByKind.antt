@@ -1,7 +1,7 @@
 -- The kind of a descriptor: what the identifier and the tag say of it, and that its table is read.
 -- Assumes nothing.
 use mathlib.Core.Path.{_≡_, refl, ap, _∙_, subst}
-use mathlib.Core.Bool.{Bool, true, false, cond}
+use mathlib.Core.Bool.{Bool, cond}
 use mathlib.Core.List.{List}
 use Prim.Native.Nat.{ℕ, _+_, _*_, _<_}
 use native.Mathlib.Omega.{arith}
@@ -9,10 +9,10 @@ use lib.Dec.{eqb}
 use lib.ListN.{getD}
 use borrow.Author.Tests.{eq-eqb, ne-eqb}
 use Rattle.bits.specs.Bits.{bit, num}
-use Rattle.grammar.specs.Syntax.{Test, Prog, is, done, branch}
-use Rattle.grammar.specs.Meaning.{Env, valueOf, holds, Outcome}
+use Rattle.grammar.specs.Syntax.{is, done, branch}
+use Rattle.grammar.specs.Meaning.{Env, valueOf, Outcome}
 use Rattle.grammar.specs.Tables.{bytes, known-descriptor}
-use Rattle.grammar.proofs.Run.{Runs, yes-last, no-last}
+use Rattle.grammar.proofs.Run.{Runs, chosen}
 use Rattle.grammar.proofs.Places.{octet}
 use Rattle.descriptors.specs.declared.Kind.{Kind}
 use Rattle.descriptors.specs.declared.Kind.the-variants.{Avail, Dtmf, Segmentation, Time, Audio, Unknown}
@@ -44,23 +44,16 @@ no-tag t h =
 
 -- ---- its table
 
--- a branch between two kinds runs as the kind's table where the two arms do
-choose : {test : Test} {p q : Prog} {env : Env} {f : ℕ → ℕ} {end k : ℕ} {o : Outcome} (t : Bool) (a b : Kind) → holds test env end k ≡ t
-    → (Runs (tableOf a) env f end k o → Runs p env f end k o) → (Runs (tableOf b) env f end k o → Runs q env f end k o)
-    → Runs (tableOf (cond t a b)) env f end k o → Runs (branch test p q done) env f end k o
-choose true a b e first second r = yes-last e (first r)
-choose false a b e first second r = no-last e (second r)
-
 by-tag : {env : Env} {f : ℕ → ℕ} {end k : ℕ} {o : Outcome} (t : ℕ) → valueOf env "splice_descriptor_tag" ≡ t
     → Runs (tableOf (byTag t)) env f end k o → Runs (known-descriptor (bytes "private_byte")) env f end k o
 unfolding byTag tableOf known-descriptor
 by-tag {env} {f} {end} {k} {o} t e =
     let is-it : (v : ℕ) → eqb (valueOf env "splice_descriptor_tag") v ≡ eqb t v = λ v. ap (λ (x : ℕ). eqb x v) e in
-    choose (eqb t 0) Avail _ (is-it 0) (λ r. r)
-    (choose (eqb t 1) Dtmf _ (is-it 1) (λ r. r)
-    (choose (eqb t 2) Segmentation _ (is-it 2) (λ r. r)
-    (choose (eqb t 3) Time _ (is-it 3) (λ r. r)
-    (choose (eqb t 4) Audio Unknown (is-it 4) (λ r. r) (λ r. r)))))
+    chosen tableOf (eqb t 0) Avail _ (is-it 0) (λ r. r)
+    (chosen tableOf (eqb t 1) Dtmf _ (is-it 1) (λ r. r)
+    (chosen tableOf (eqb t 2) Segmentation _ (is-it 2) (λ r. r)
+    (chosen tableOf (eqb t 3) Time _ (is-it 3) (λ r. r)
+    (chosen tableOf (eqb t 4) Audio Unknown (is-it 4) (λ r. r) (λ r. r)))))
 
 -- Table 17 after the identifier: the table of the descriptor's kind
 pub by-kind : {env : Env} {f : ℕ → ℕ} {end k : ℕ} {o : Outcome} {kind : Kind} (s : List ℕ) (at : ℕ)
@@ -69,5 +62,5 @@ pub by-kind : {env : Env} {f : ℕ → ℕ} {end k : ℕ} {o : Outcome} {kind : 
     → Runs (branch (is "identifier" 0x43554549) (known-descriptor (bytes "private_byte")) (bytes "private_byte") done) env f end k o
 unfolding kindOf tableOf
 by-kind {env} {f} {end} {k} {o} s at same tag e r =
-    choose (eqb (num (bit s) (8 * (at + 2)) 32) 0x43554549) (byTag (num (bit s) (8 * at) 8)) Unknown (ap (λ (x : ℕ). eqb x 0x43554549) same)
+    chosen tableOf (eqb (num (bit s) (8 * (at + 2)) 32) 0x43554549) (byTag (num (bit s) (8 * at) 8)) Unknown (ap (λ (x : ℕ). eqb x 0x43554549) same)
     (by-tag (num (bit s) (8 * at) 8) tag) (λ q. q) (subst (λ (x : Kind). Runs (tableOf x) env f end k o) e r)

@@ -127,6 +127,13 @@ pub no-last : {t : Test} {a b : Prog} {env : Env} {f : ℕ → ℕ} {end k : ℕ
     → Runs b env f end k o → Runs (branch t a b done) env f end k o
 no-last {t} {a} {b} {env} {f} {end} {k} {o} h r = no h r (on-done env f end o)
 
+-- a branch runs as the table that a choice by the same test names, where each of its arms does
+pub chosen : {A : Type 0} {test : Test} {p q : Prog} {env : Env} {f : ℕ → ℕ} {end k : ℕ} {o : Outcome} (table : A → Prog) (t : Bool) (a b : A)
+    → holds test env end k ≡ t → (Runs (table a) env f end k o → Runs p env f end k o) → (Runs (table b) env f end k o → Runs q env f end k o)
+    → Runs (table (cond t a b)) env f end k o → Runs (branch test p q done) env f end k o
+chosen table true a b e first second r = yes-last e (first r)
+chosen table false a b e first second r = no-last e (second r)
+
 -- something is left of the part, or nothing
 pub more-left : {a b : Prog} {env : Env} {f : ℕ → ℕ} {end k : ℕ} {o : Outcome} → k < end → Runs a env f end k o → Runs (branch more a b done) env f end k o
 more-left {a} {b} {env} {f} {end} {k} h r = yes-last (lt-ltb k end h) r
