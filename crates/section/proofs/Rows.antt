@@ -1,7 +1,7 @@
 -- The rows of acceptance, as the code tests them: what each asks of the header's bytes.
 -- Assumes nothing.
 use mathlib.Core.Path.{_≡_, refl, ap, ap₂, _∙_}
-use mathlib.Core.Bool.{Bool, true, false, not, _||_}
+use mathlib.Core.Bool.{Bool, true, false, not, _&&_, _||_}
 use mathlib.Core.List.{List, [], _∷_}
 use mathlib.Core.Logic.{⊎-elim}
 use Prim.Native.Nat.{ℕ, _+_, _-_, _*_, _≤_, _<_}
@@ -10,6 +10,7 @@ use lib.ListN.{length, getD}
 use lib.Dec.{ltb, eqb}
 use borrow.Author.Tests.{lt-ltb, le-ltb, eq-eqb, ne-eqb}
 use Rattle.bits.specs.Bits.{bit, num}
+use Rattle.crc.specs.Crc.{crc32}
 use Rattle.bits.proofs.Bytes.{AreBytes}
 use Rattle.bits.proofs.Cases.{le-or-lt}
 use Rattle.grammar.proofs.Places.{flag-test, octet}
@@ -108,6 +109,18 @@ sealed-whole s long closed =
 -- the last three rows, by what the grammar says
 abbrev pub last-rows : Outcome → List (Bool × ℕ)
 last-rows o = (breaks o 8, 8) ∷ (breaks o 9, 9) ∷ (not (complete o), 10) ∷ []
+
+-- the rows of the table, as the definition lists them
+abbrev pub rows : List ℕ → List (Bool × ℕ)
+rows s =
+    (ltb (length s) 20, 1)
+    ∷ (not (eqb (the s "table_id") 0xFC), 2)
+    ∷ (eqb (the s "section_syntax_indicator") 1 || eqb (the s "private_indicator") 1, 3)
+    ∷ (ltb 4093 (the s "section_length") || not (eqb (the s "section_length" + 3) (length s)), 4)
+    ∷ (not (eqb (crc32 s) 0), 5)
+    ∷ (not (eqb (the s "protocol_version") 0), 6)
+    ∷ (eqb (the s "encrypted_packet") 1 && ltb (length s) 24, 7)
+    ∷ last-rows (grammarOf s)
 
 -- the row and the verdict that a verdict of the grammar's comes to
 pub last-row : (r : Verdict) (end : ℕ) → grammatical r → (n : ℕ) × Row (last-rows (judged end r)) n × (r ≡ verdict n)
