@@ -62,7 +62,7 @@ no-row s e =
     let r8 = missed _ (r7 .1) (omega arith) in
     let r9 = missed _ (r8 .1) (omega arith) in
     let r10 = missed _ (r9 .1) (omega arith) in
-    let size = neither _ _ (r4 .0) in
+    let size : (ltb 4093 (the s "section_length") ≡ false) × (not (eqb (the s "section_length" + 3) (length s)) ≡ false) = neither _ _ (r4 .0) in
     let same : the s "section_length" + 3 ≡ length s = eqb-true _ _ (unset _ (size .1)) in
     let all = ended (grammarOf s) (unset _ (r10 .0)) in
     record {
