@@ -1,8 +1,8 @@
 -- What acceptance says: the test of each row is false, so the section has its size, its sum is right, and the grammar reads it to an end.
 -- Assumes nothing.
-use mathlib.Core.Path.{_≡_, refl, ap, _∙_}
+use mathlib.Core.Path.{_≡_, refl}
 use mathlib.Core.Bool.{Bool, true, false, not, _&&_, _||_}
-use mathlib.Core.List.{List, [], _∷_}
+use mathlib.Core.List.{List, _∷_}
 use Prim.Native.Nat.{ℕ, zero, suc, _+_, _≤_, _<_}
 use native.Mathlib.Omega.{arith}
 use lib.ListN.{length}
@@ -11,9 +11,8 @@ use borrow.Author.Tests.{ltb-false, eqb-true}
 use Rattle.crc.specs.Crc.{crc32}
 use Rattle.units.proofs.Rows.{Row}
 use Rattle.grammar.specs.Meaning.{Outcome, breach, ends}
-use Rattle.section.specs.declared.Verdict.{Verdict}
-use Rattle.section.specs.declared.Verdict.the-variants.{Accepted, Refused}
-use Rattle.section.specs.Accept.{the, grammarOf, breaks, complete, acceptRow, verdict, acceptOf}
+use Rattle.section.specs.declared.Verdict.the-variants.{Accepted}
+use Rattle.section.specs.Accept.{the, grammarOf, complete, acceptRow, verdict, acceptOf}
 use Rattle.section.proofs.Rows.{rows}
 
 -- where no row of a table applies, its first does not, and none of the others does

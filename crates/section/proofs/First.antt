@@ -2,25 +2,25 @@
 -- section is what stands before the cursor, then what it reads of the descriptors that the walk finds, then stuffing.
 -- Assumes nothing.
 use mathlib.Core.Path.{_≡_, refl, sym, ap, ap₂, subst, _∙_}
-use mathlib.Core.Bool.{Bool, true, false}
+use mathlib.Core.Bool.{false}
 use mathlib.Core.List.{List, [], _∷_, _++_, append-assoc}
 use Prim.Native.Nat.{ℕ, _+_, _-_, _*_, _/_, _≤_}
 use native.Mathlib.Omega.{arith}
 use lib.ListN.{length}
 use lib.Dec.{eqb}
 use Rattle.bits.specs.Bits.{bit, num}
-use Rattle.grammar.specs.Syntax.{Item, field, done, fill, under}
-use Rattle.grammar.specs.Meaning.{Env, valueOf, values, bind, reached, read, endOf, ends, run}
+use Rattle.grammar.specs.Syntax.{field, done, fill, under}
+use Rattle.grammar.specs.Meaning.{Env, values, bind, Reading, broken, reached, read, endOf, ends, run}
 use Rattle.grammar.specs.Tables.{header, bytes, sized-command, splice-descriptor, descriptor-loop, payload, splice-info-section}
 use Rattle.grammar.specs.Traces.{Trace, size}
 use Rattle.grammar.proofs.Ends.{covers}
 use Rattle.grammar.proofs.Traces.{size-values, size-append}
-use Rattle.commands.specs.Command.{known, commandEnd}
+use Rattle.commands.specs.Command.{known}
 use Rattle.descriptors.specs.declared.Cursor.{Cursor}
 use Rattle.descriptors.specs.Loop.{walked, tracesAt}
 use Rattle.descriptors.proofs.Loop.{loop-trace}
 use Rattle.section.specs.declared.Verdict.the-variants.{Accepted}
-use Rattle.section.specs.Accept.{the, acceptOf}
+use Rattle.section.specs.Accept.{the, grammarOf, acceptOf}
 use Rattle.section.specs.First.{firstCursor}
 use Rattle.section.proofs.Accepted.{accepted}
 use Rattle.section.proofs.Octets.{command-octets}
@@ -101,36 +101,57 @@ module _ (s : List ℕ) where
         let body = rows-parts (no-parts (top .1) h) in
         (body .0, body .1, top .2 ∙ ap (λ (v : Trace). values header (bit s) 0 ++ v) (body .2))
 
-    -- the section's trace, by its parts
-    pub first-trace : read splice-info-section [] (bit s) (8 * (length s - 4)) 0 ≡ reached j t → Laid s (firstCursor s) j t
-    unfolding run endOf
-    first-trace q =
-        let long : 20 ≤ length s = accepted s e .long in
-        let body = unsealed (record { reads = q }) in
-        let told = under-parts (body .1) in
-        let n : ℕ = told .mid / 8 in
-        let byte : told .mid ≡ 8 * n = omega (arith, command-octets (known s) (bit s) (8 * (length s - 4)) 112 (told .mid) (told .left) refl (told .came .reads)) in
-        let came : read sized-command (known s) (bit s) (8 * (length s - 4)) 112 ≡ reached (8 * n) (told .left) =
-        told .came .reads ∙ ap (λ (i : ℕ). reached i (told .left)) byte in
-        let went : Reads (under 9 descriptor-loop (bytes "alignment_stuffing")) (known s) (bit s) (8 * (length s - 4)) (8 * n) j (told .right) =
-        subst (λ (i : ℕ). Reads (under 9 descriptor-loop (bytes "alignment_stuffing")) (known s) (bit s) (8 * (length s - 4)) i j (told .right)) byte (told .went) in
-        let rest = under-parts went in
+    -- around the loop of a command that ends at byte n
+    around : (n : ℕ) (command v : Trace) → 20 ≤ length s
+        → read sized-command (known s) (bit s) (8 * (length s - 4)) 112 ≡ reached (8 * n) command
+        → t ≡ values header (bit s) 0 ++ (values (field 8 "splice_command_type" ∷ []) (bit s) 104 ++ (command ++ v))
+        → Parts descriptor-loop (bytes "alignment_stuffing") (known s) (bit s) (8 * (length s - 4)) (8 * n) j v → Laid s (loop n) j t
+    around n command v long came trace rest =
         let walk = looped n (rest .mid) (rest .left) long (rest .came) in
+        let type : Trace = values (field 8 "splice_command_type" ∷ []) (bit s) 104 in
         let back : read (bytes "alignment_stuffing") (known s) (bit s) (8 * (length s - 4)) (8 * loop n .end) ≡ reached j (rest .right) =
         ap (λ (i : ℕ). read (bytes "alignment_stuffing") (known s) (bit s) (8 * (length s - 4)) i) (sym (walk .0)) ∙ rest .went .reads in
-        let type : Trace = values (field 8 "splice_command_type" ∷ []) (bit s) 104 in
-        subst (λ (c : Cursor). Laid s c j t) (sym (after-command s e h n (command-run s long ∙ ap endOf came)))
-        (record {
+        record {
           stop = n;
-          command = told .left;
+          command = command;
           stuffing = rest .right;
           starts = refl;
           commanded = came;
           stuffed = back;
           whole =
-              body .2
-              ∙ ap (λ (v : Trace). values header (bit s) 0 ++ (type ++ v)) (told .joined ∙ ap (λ (v : Trace). told .left ++ v) (rest .joined ∙ ap (λ (v : Trace). v ++ rest .right) (walk .1)))
-              ∙ regroup (values header (bit s) 0) type (told .left) (values (field 16 "descriptor_loop_length" ∷ []) (bit s) (8 * n)) (tracesAt s (walked s (loop n))) (rest .right);
-          before = front-size n (told .left) (covers sized-command (known s) (bit s) (8 * (length s - 4)) 112 (8 * n) (told .left) came);
+              trace
+              ∙ ap (λ (w : Trace). values header (bit s) 0 ++ (type ++ (command ++ w))) (rest .joined ∙ ap (λ (u : Trace). u ++ rest .right) (walk .1))
+              ∙ regroup (values header (bit s) 0) type command (values (field 16 "descriptor_loop_length" ∷ []) (bit s) (8 * n)) (tracesAt s (walked s (loop n))) (rest .right);
+          before = front-size n command (covers sized-command (known s) (bit s) (8 * (length s - 4)) 112 (8 * n) command came);
           beyond = covers (bytes "alignment_stuffing") (known s) (bit s) (8 * (length s - 4)) (8 * loop n .end) j (rest .right) back;
-        })
+        }
+
+    -- the same where the command's end is counted in bits
+    around-bits : (v : Trace) → t ≡ values header (bit s) 0 ++ (values (field 8 "splice_command_type" ∷ []) (bit s) 104 ++ v)
+        → Parts sized-command (under 9 descriptor-loop (bytes "alignment_stuffing")) (known s) (bit s) (8 * (length s - 4)) 112 j v
+        → Laid s (firstCursor s) j t
+    unfolding run endOf
+    around-bits v trace q =
+        let long : 20 ≤ length s = accepted s e .long in
+        let n : ℕ = q .mid / 8 in
+        let byte : q .mid ≡ 8 * n = omega (arith, command-octets (known s) (bit s) (8 * (length s - 4)) 112 (q .mid) (q .left) refl (q .came .reads)) in
+        let came : read sized-command (known s) (bit s) (8 * (length s - 4)) 112 ≡ reached (8 * n) (q .left) =
+        q .came .reads ∙ ap (λ (i : ℕ). reached i (q .left)) byte in
+        let went : Reads (under 9 descriptor-loop (bytes "alignment_stuffing")) (known s) (bit s) (8 * (length s - 4)) (8 * n) j (q .right) =
+        subst (λ (i : ℕ). Reads (under 9 descriptor-loop (bytes "alignment_stuffing")) (known s) (bit s) (8 * (length s - 4)) i j (q .right)) byte (q .went) in
+        subst (λ (c : Cursor). Laid s c j t) (sym (after-command s e h n (command-run s long ∙ ap endOf came)))
+        (around n (q .left) (q .right) long came
+        (trace ∙ ap (λ (w : Trace). values header (bit s) 0 ++ (values (field 8 "splice_command_type" ∷ []) (bit s) 104 ++ w)) (q .joined)) (under-parts went))
+
+    -- the section's trace, by its parts
+    pub first-trace : read splice-info-section [] (bit s) (8 * (length s - 4)) 0 ≡ reached j t → Laid s (firstCursor s) j t
+    first-trace q = let body = unsealed (record { reads = q }) in around-bits (body .0) (body .2) (under-parts (body .1))
+
+  -- and an accepted section has such a trace
+  pub has-trace : acceptOf s ≡ Accepted → (j : ℕ) × (t : Trace) × (read splice-info-section [] (bit s) (8 * (length s - 4)) 0 ≡ reached j t)
+  unfolding grammarOf run endOf
+  has-trace e = of (read splice-info-section [] (bit s) (8 * (length s - 4)) 0) (accepted s e .reads)
+    where
+      of : (r : Reading) → endOf r ≡ ends (accepted s e .stop) → (j : ℕ) × (t : Trace) × (r ≡ reached j t)
+      of (broken n) q = let z : _≡_ {A = ℕ} 0 1 = cc in absurd (omega arith)
+      of (reached j t) q = (j, t, refl)

@@ -1,14 +1,13 @@
 -- A table whose branches agree on the place modulo 8 ends where that says: the command of a section ends at a whole byte.
 -- Assumes nothing.
-use mathlib.Core.Path.{_≡_, refl, sym, ap, _∙_}
+use mathlib.Core.Path.{_≡_, refl, ap, _∙_}
 use mathlib.Core.Bool.{Bool, true, false, cond, _&&_}
-use mathlib.Core.List.{List, [], _∷_, _++_}
 use Prim.Native.Nat.{ℕ, zero, suc, _+_, _-_, _*_, _%_}
 use native.Mathlib.Omega.{arith}
 use lib.Dec.{leb, ltb, eqb}
 use borrow.Author.Tests.{eqb-true}
 use Rattle.grammar.specs.Syntax.{Prog, done, stop, fields, branch, call, repeat, frame, fill, under}
-use Rattle.grammar.specs.Meaning.{Env, valueOf, width, values, bind, holds, Reading, broken, reached, after, then, again, sweep, exactly, numbered, read}
+use Rattle.grammar.specs.Meaning.{Env, valueOf, width, values, bind, holds, Reading, broken, reached, then, again, sweep, exactly, numbered, read}
 use Rattle.grammar.specs.Tables.{splice-time, break-duration, avail-numbers, avails, schedule-times, schedule-event, splice-schedule, insert-component, insert-times, splice-insert, command, sized-command}
 use Rattle.grammar.specs.Traces.{Trace}
 use Rattle.grammar.proofs.Ends.{Gives, breaks, gives, given, when-gives, after-gives, numbered-gives}

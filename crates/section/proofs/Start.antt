@@ -1,6 +1,6 @@
 -- The first cursor by cases, and where the command before it ends.
 -- Assumes nothing.
-use mathlib.Core.Path.{_≡_, refl, sym, ap, _∙_}
+use mathlib.Core.Path.{_≡_, sym, ap, _∙_}
 use mathlib.Core.Bool.{Bool, true, false, cond}
 use mathlib.Core.List.{List}
 use Prim.Native.Nat.{ℕ, _+_, _-_, _*_, _/_, _≤_}
@@ -9,11 +9,10 @@ use lib.ListN.{length}
 use lib.Dec.{eqb}
 use borrow.Author.Tests.{le-ltb}
 use Rattle.bits.specs.Bits.{bit, num}
-use Rattle.grammar.specs.Meaning.{Outcome, ends, breach, run}
+use Rattle.grammar.specs.Meaning.{ends, breach, run}
 use Rattle.grammar.specs.Tables.{sized-command}
 use Rattle.grammar.proofs.Within.{byte-within}
 use Rattle.commands.specs.Command.{known, commandEnd}
-use Rattle.descriptors.specs.declared.Cursor.{Cursor}
 use Rattle.units.specs.declared.refusals.Refusal.{Refusal}
 use Rattle.section.specs.declared.Verdict.{Verdict}
 use Rattle.section.specs.declared.Verdict.the-variants.{Accepted, Refused}

@@ -1,10 +1,9 @@
 -- `section::first_cursor` meets its contract: each way out is a case of the definition.
 -- Assumes nothing.
-use mathlib.Core.Path.{_≡_, refl, sym, ap, _∙_}
-use mathlib.Core.List.{List}
-use Prim.Native.Nat.{ℕ, _+_, _-_, _*_, _/_, _≤_, _<_}
+use mathlib.Core.Path.{_≡_, sym, ap, _∙_}
+use Prim.Native.Nat.{ℕ, _+_, _*_, _≤_}
 use native.Mathlib.Omega.{arith}
-use lib.ListN.{length, getD}
+use lib.ListN.{length}
 use borrow.Author.Tests.{le-leb}
 use Rattle.bits.specs.Bits.{bit, num}
 use Rattle.bits.proofs.Bytes.{AreBytes, num-room}
@@ -12,10 +11,8 @@ use Rattle.bits.proofs.Within.{field-in, narrow}
 use Rattle.grammar.specs.Meaning.{ends}
 use Rattle.grammar.specs.Ended.{outcome}
 use Rattle.commands.specs.Command.{commandEnd}
-use Rattle.descriptors.specs.declared.Cursor.{Cursor}
 use Rattle.section.specs.declared.Verdict.the-variants.{Accepted}
 use Rattle.section.specs.Accept.{acceptOf}
-use Rattle.section.specs.First.{firstCursor}
 use Rattle.section.proofs.Rows.{clear, sealed}
 use Rattle.section.proofs.Accepted.{Allowed, accepted}
 use Rattle.section.proofs.Start.{command-within, no-section, when-sealed, no-command, after-command}
