@@ -32,11 +32,10 @@ unfoldable pub complete : Outcome → Bool
 complete (breach m) = false
 complete (ends k) = true
 
--- the first row that applies, 0 where none does
-unfoldable pub acceptRow : List ℕ → ℕ
-acceptRow s =
-    first
-    ((ltb (length s) 20, 1)  -- SHORT
+-- the rows of 01's table, in their order: a test, and the number that it gives
+abbrev pub acceptRows : List ℕ → List (Bool × ℕ)
+acceptRows s =
+    (ltb (length s) 20, 1)  -- SHORT
     ∷ (not (eqb (the s "table_id") 0xFC), 2)  -- TABLE
     ∷ (eqb (the s "section_syntax_indicator") 1 || eqb (the s "private_indicator") 1, 3)  -- SYNTAX
     ∷ (ltb 4093 (the s "section_length") || not (eqb (the s "section_length" + 3) (length s)), 4)  -- SIZE
@@ -46,7 +45,11 @@ acceptRow s =
     ∷ (breaks (grammarOf s) 8, 8)  -- COMMAND
     ∷ (breaks (grammarOf s) 9, 9)  -- LOOP
     ∷ (not (complete (grammarOf s)), 10)  -- DESCRIPTOR
-    ∷ [])
+    ∷ []
+
+-- the first row that applies, 0 where none does
+unfoldable pub acceptRow : List ℕ → ℕ
+acceptRow s = first (acceptRows s)
 
 -- the verdict for a row: no row, 0, accepts
 unfoldable pub verdict : ℕ → Verdict

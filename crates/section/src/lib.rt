@@ -10,6 +10,7 @@ ghost use Rattle.grammar.specs.Meaning.{Env, bind, ends, breach, run};
 ghost use Rattle.grammar.specs.Tables.{header, payload, descriptor-loop, bytes, splice-descriptor};
 ghost use Rattle.grammar.proofs.Run.{Runs, swept};
 ghost use Rattle.section.specs.Accept.{acceptOf, judged, grammatical};
+ghost use Rattle.section.specs.First.{firstCursor};
 use descriptors::Cursor;
 use descriptors::Step;
 use grammar::Ended;
@@ -56,6 +57,27 @@ pub fn accept(s: &[u8]) -> Verdict
         return Verdict::Refused(Refusal::Crypt);
     }
     Verdict::Accepted
+}
+
+// The cursor of the section's first descriptor. Empty where the bytes are no section, and where the section is sealed.
+pub fn first_cursor(s: &[u8]) -> Cursor
+    ensures { λ r. ⌜ r ≡ firstCursor (now (s .entry)) ⌝ }
+{
+    let Verdict::Accepted = accept(s) else {
+        return Cursor { at: 0, end: 0 };
+    };
+    // encrypted_packet is the top bit
+    if 128 <= s[4] {
+        return Cursor { at: 0, end: 0 };
+    }
+    let Ended::At(at) = commands::command_end(s) else {
+        return Cursor { at: 0, end: 0 };
+    };
+    let descriptor_loop_length = bits::read(s, 8 * at, 16) as usize;
+    Cursor {
+        at: at + 2,
+        end: at + 2 + descriptor_loop_length,
+    }
 }
 
 // Table 5, from splice_command_type on.

@@ -16,26 +16,14 @@ use Rattle.crc.specs.Crc.{crc32}
 use Rattle.units.proofs.Rows.{Row, miss, hit}
 use Rattle.section.specs.declared.Verdict.{Verdict}
 use Rattle.section.specs.declared.Verdict.the-variants.{Accepted}
-use Rattle.section.specs.Accept.{the, grammarOf, acceptRow, verdict, acceptOf, judged}
-use Rattle.section.proofs.Rows.{table, no-table, syntax-clear, syntax-set, size, too-long, other-length, version-0, other-version, clear, sealed, whole, sealed-whole, last-rows, last-row}
+use Rattle.section.specs.Accept.{acceptRows, the, grammarOf, acceptRow, verdict, acceptOf, judged}
+use Rattle.section.proofs.Rows.{table, no-table, syntax-clear, syntax-set, size, too-long, other-length, version-0, other-version, clear, sealed, whole, sealed-whole, last-row}
 use borrow.Author.Needs.{needs}
 use Rattle.section.proofs.accept.Statement.{statement}
 use Rattle.section.proofs.accept.Tie as tie
 
--- the rows of the table, as the definition lists them
-abbrev rows : List ℕ → List (Bool × ℕ)
-rows s =
-    (ltb (length s) 20, 1)
-    ∷ (not (eqb (the s "table_id") 0xFC), 2)
-    ∷ (eqb (the s "section_syntax_indicator") 1 || eqb (the s "private_indicator") 1, 3)
-    ∷ (ltb 4093 (the s "section_length") || not (eqb (the s "section_length" + 3) (length s)), 4)
-    ∷ (not (eqb (crc32 s) 0), 5)
-    ∷ (not (eqb (the s "protocol_version") 0), 6)
-    ∷ (eqb (the s "encrypted_packet") 1 && ltb (length s) 24, 7)
-    ∷ last-rows (grammarOf s)
-
 -- a verdict is the one for the first row that applies
-decide : (s : List ℕ) {r : Verdict} (n : ℕ) → Row (rows s) n → r ≡ verdict n → r ≡ acceptOf s
+decide : (s : List ℕ) {r : Verdict} (n : ℕ) → Row (acceptRows s) n → r ≡ verdict n → r ≡ acceptOf s
 unfolding acceptOf acceptRow
 decide s n row e = e ∙ ap verdict (sym (row .row))
 
