@@ -9,3 +9,5 @@ pub mod Scope
 pub mod Plain
 pub mod RoundTrip
 pub mod Reserved
+pub mod Octets
+pub mod Readings

@@ -23,8 +23,8 @@ use Rattle.section.specs.declared.Verdict.the-variants.{Accepted}
 use Rattle.section.specs.Accept.{the, grammarOf, acceptOf}
 use Rattle.section.specs.First.{firstCursor}
 use Rattle.section.proofs.Accepted.{accepted}
-use Rattle.section.proofs.Octets.{command-octets}
-use Rattle.section.proofs.Readings.{Reads, Parts, rows-parts, no-parts, frame-parts, under-parts, under-last}
+use Rattle.grammar.proofs.Octets.{command-octets}
+use Rattle.grammar.proofs.Readings.{Reads, Parts, rows-parts, no-parts, frame-parts, under-parts, under-last}
 use Rattle.section.proofs.Start.{command-run, after-command}
 
 -- what is read before the first descriptor, of a command that ends at byte n: header, splice_command_type, command and descriptor_loop_length
