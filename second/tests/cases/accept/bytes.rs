@@ -1,6 +1,8 @@
 //! Built sections with a byte changed at every place, the CRC put right and left wrong.
 
-use crate::support::built::{any_section, middling_section, with_crc, Built, Size};
+use crate::support::built::{
+    any_section, longest_section, middling_section, with_crc, Built, Size,
+};
 use crate::support::Bench;
 
 /// Below this many bytes, every bit is turned over.
@@ -29,6 +31,11 @@ pub fn of_long_sections(bench: &mut Bench) {
             let value = bench.random.one_of(&[0, 1, 0x7F, 0x80, 0xFF]);
             try_byte(bench, &built, at, value);
         }
+    }
+    let built = longest_section(&mut bench.random);
+    for at in 0..built.bytes.len() {
+        let value = bench.random.number() as u8;
+        try_byte(bench, &built, at, value);
     }
     for _ in 0..100 {
         let built = any_section(&mut bench.random, Size::Long);

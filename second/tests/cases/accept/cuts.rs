@@ -1,6 +1,8 @@
 //! Built sections cut at every length, and grown, the lengths and the CRC put right or left wrong.
 
-use crate::support::built::{any_section, cut, grown, middling_section, with_crc, Built, Size};
+use crate::support::built::{
+    any_section, cut, grown, longest_section, middling_section, with_crc, Built, Size,
+};
 use crate::support::Bench;
 
 pub fn of_short_sections(bench: &mut Bench) {
@@ -23,6 +25,10 @@ pub fn of_long_sections(bench: &mut Bench) {
         for count in 0..=built.bytes.len() {
             try_cut(bench, &built, count);
         }
+    }
+    let built = longest_section(&mut bench.random);
+    for count in 0..=built.bytes.len() {
+        try_cut(bench, &built, count);
     }
     for _ in 0..100 {
         let built = any_section(&mut bench.random, Size::Long);

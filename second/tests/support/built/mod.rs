@@ -81,6 +81,15 @@ pub fn middling_section(random: &mut Random) -> Built {
     }
 }
 
+/// A section of 4,096 bytes: a long one, with stuffing up to there.
+pub fn longest_section(random: &mut Random) -> Built {
+    let mut built = any_section(random, Size::Long);
+    let more = random.bytes(4096 - built.bytes.len());
+    built.bytes = grown(&built.bytes, &more);
+    assert_eq!(built.bytes.len(), 4096);
+    built
+}
+
 /// A section of this command, these descriptors and this stuffing; a command that ends by itself
 /// has its length left open once in three times.
 pub fn section(
