@@ -220,8 +220,8 @@ fn segmentation_end(s: &[u8], at: usize, end: usize) -> Ended
     Ended::At(n + 5)
 }
 
-// Table 20, the types that may carry sub-segments.
-fn is_sub_segmented(segmentation_type_id: u8) -> bool
+// Whether a segmentation type may carry sub-segments (Table 20).
+pub fn is_sub_segmented(segmentation_type_id: u8) -> bool
     ensures { λ r. ⌜ r ≡ isAmong «segmentation_type_id» sub-segmented ⌝ }
 {
     match segmentation_type_id {
