@@ -88,13 +88,21 @@ rows-parts {rows} {p} {env} {f} {end} {k} q =
     let on = after-parts (values rows f k) (read p (bind rows f k env) f end (k + width rows)) (if-parts (leb (k + width rows) end) _ (q .reads) .1) in
     (on .0, record { reads = on .1 }, on .2)
 
-pub no-parts : {c : Test} {a b : Prog} {env : Env} {f : ℕ → ℕ} {end k j : ℕ} {t : Trace} → Reads (branch c a b done) env f end k j t
-    → holds c env end k ≡ false → Reads b env f end k j t
+-- the arm that the test picks
+pub arm-parts : {c : Test} {a b : Prog} {env : Env} {f : ℕ → ℕ} {end k j : ℕ} {t : Trace} (u : Bool) → Reads (branch c a b done) env f end k j t
+    → holds c env end k ≡ u → Reads (cond u a b) env f end k j t
 unfolding read
-no-parts {c} {a} {b} {env} {f} {end} {k} q h =
-    let first : Reading = cond (holds c env end k) (read a env f end k) (read b env f end k) in
-    let other : first ≡ read b env f end k = ap (λ (u : Bool). cond u (read a env f end k) (read b env f end k)) h in
-    record { reads = sym other ∙ last-part env f end first (q .reads) }
+arm-parts {c} {a} {b} {env} {f} {end} {k} {j} {t} u q h = picked u (sym chosen ∙ last-part env f end first (q .reads))
+  where
+    first : Reading
+    first = cond (holds c env end k) (read a env f end k) (read b env f end k)
+
+    chosen : first ≡ cond u (read a env f end k) (read b env f end k)
+    chosen = ap (λ (x : Bool). cond x (read a env f end k) (read b env f end k)) h
+
+    picked : (x : Bool) → cond x (read a env f end k) (read b env f end k) ≡ reached j t → Reads (cond x a b) env f end k j t
+    picked true e = record { reads = e }
+    picked false e = record { reads = e }
 
 -- a part that a length gives: it is there, and used up
 pub frame-parts : {n : String} {a : Prog} {env : Env} {f : ℕ → ℕ} {end k j : ℕ} {t : Trace} → Reads (frame n a done) env f end k j t

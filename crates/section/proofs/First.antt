@@ -24,7 +24,7 @@ use Rattle.section.specs.Accept.{the, grammarOf, acceptOf}
 use Rattle.section.specs.First.{firstCursor}
 use Rattle.section.proofs.Accepted.{accepted}
 use Rattle.grammar.proofs.Octets.{command-octets}
-use Rattle.grammar.proofs.Readings.{Reads, Parts, rows-parts, no-parts, frame-parts, under-parts, under-last}
+use Rattle.grammar.proofs.Readings.{Reads, Parts, rows-parts, arm-parts, frame-parts, under-parts, under-last}
 use Rattle.section.proofs.Start.{command-run, after-command}
 
 -- what is read before the first descriptor, of a command that ends at byte n: header, splice_command_type, command and descriptor_loop_length
@@ -98,7 +98,7 @@ module _ (s : List ℕ) where
     unfolding splice-info-section payload known the
     unsealed q =
         let top = rows-parts q in
-        let body = rows-parts (no-parts (top .1) h) in
+        let body = rows-parts (arm-parts false (top .1) h) in
         (body .0, body .1, top .2 ∙ ap (λ (v : Trace). values header (bit s) 0 ++ v) (body .2))
 
     -- around the loop of a command that ends at byte n

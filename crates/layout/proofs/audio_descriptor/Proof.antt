@@ -1,11 +1,11 @@
+-- `layout::audio_descriptor` meets its contract: a group, then as many components as its count says.
+-- Assumes nothing.
+use mathlib.Core.Path.{refl, sym}
 use borrow.Author.Needs.{needs}
+use Rattle.grammar.specs.Tables.{audio-descriptor}
+use Rattle.layout.proofs.Lays.{finished, pass, many}
 use Rattle.layout.proofs.audio_descriptor.Statement.{statement}
 use Rattle.layout.proofs.audio_descriptor.Tie as tie
-use Rattle.layout.proofs.audio_descriptor.Reads as reads
-use Rattle.layout.proofs.audio_descriptor.Lts as lts
-use Rattle.layout.proofs.group.Reads as group-reads
-use Rattle.layout.proofs.groups.Reads as groups-reads
-use Rattle.layout.proofs.value.Reads as value-reads
 
 value-requires : tie.Need-value-requires
 value-requires c κs = search needs
@@ -26,7 +26,12 @@ same-length : tie.Need-same-length
 same-length c = search needs
 
 returns : tie.Need-returns
-returns c = ?
+unfolding audio-descriptor
+returns c =
+    let groups = c .before .before .groups in
+    let group = c .before .before .before .before .before .before .before .group in
+    let value = c .before .before .before .before .before .before .before .before .before .before .value in
+    (λ env end. pass (group .ensures .0) (many _ (sym (value .ensures .0)) (groups .ensures .0) (finished refl)), groups .ensures .1)
 
 pub audio-descriptor-spec : {M : Type 1} → statement M
 audio-descriptor-spec =

@@ -1,9 +1,12 @@
+-- `layout::avails` meets its contract: a break_duration() where the flag says so, then the numbers.
+-- Assumes nothing.
+use mathlib.Core.Path.{refl, sym, _∙_}
+use borrow.Author.Tests.{eq-eqb, ne-eqb}
+use Rattle.grammar.specs.Tables.{break-duration, avail-numbers, avails}
+use Rattle.layout.proofs.Lays.{finished, pass-last, yes, no}
 use borrow.Author.Needs.{needs}
 use Rattle.layout.proofs.avails.Statement.{statement}
 use Rattle.layout.proofs.avails.Tie as tie
-use Rattle.layout.proofs.avails.Reads as reads
-use Rattle.layout.proofs.avails.Lts as lts
-use Rattle.layout.proofs.group.Reads as group-reads
 
 slice-aggregate-group : tie.Need-slice-aggregate-group
 slice-aggregate-group c = search needs
@@ -21,7 +24,12 @@ same-length : tie.Need-same-length
 same-length c = search needs
 
 returns : tie.Need-returns
-returns c = ?
+unfolding avails break-duration avail-numbers
+returns c =
+    let group2 = c .before .before .group2 in
+    let group = c .before .before .before .before .before .before .before .group in
+    let if1 = c .before .before .before .before .before .before .before .before .before .before .if1 in
+    (λ env v end e. yes (eq-eqb _ 1 (e ∙ if1 .taken)) (pass-last (group .ensures .0)) (pass-last (group2 .ensures .0)), group2 .ensures .1)
 
 slice-aggregate-group-3 : tie.Need-slice-aggregate-group-3
 slice-aggregate-group-3 c = search needs
@@ -33,7 +41,11 @@ same-length-2 : tie.Need-same-length-2
 same-length-2 c = search needs
 
 returns-2 : tie.Need-returns-2
-returns-2 c = ?
+unfolding avails avail-numbers
+returns-2 c =
+    let group3 = c .before .before .group3 in
+    let if1 = c .before .before .before .before .before .if1 in
+    (λ env v end e. no (ne-eqb _ 1 (λ q. if1 .left (sym e ∙ q))) (finished refl) (pass-last (group3 .ensures .0)), group3 .ensures .1)
 
 pub avails-spec : {M : Type 1} → statement M
 avails-spec =

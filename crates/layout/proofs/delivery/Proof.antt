@@ -1,9 +1,12 @@
+-- `layout::delivery` meets its contract: each arm is a group.
+-- Assumes nothing.
+use mathlib.Core.Path.{sym, _∙_}
 use borrow.Author.Needs.{needs}
+use borrow.Author.Tests.{eq-eqb, ne-eqb}
+use Rattle.grammar.specs.Tables.{delivery}
+use Rattle.layout.proofs.Lays.{pass-last, yes-last, no-last}
 use Rattle.layout.proofs.delivery.Statement.{statement}
 use Rattle.layout.proofs.delivery.Tie as tie
-use Rattle.layout.proofs.delivery.Reads as reads
-use Rattle.layout.proofs.delivery.Lts as lts
-use Rattle.layout.proofs.group.Reads as group-reads
 
 slice-aggregate-group : tie.Need-slice-aggregate-group
 slice-aggregate-group c = search needs
@@ -21,13 +24,21 @@ same-length : tie.Need-same-length
 same-length c = search needs
 
 returns : tie.Need-returns
-returns c = ?
+unfolding delivery
+returns c =
+    let group = c .before .before .group in
+    let if1 = c .before .before .before .before .before .if1 in
+    (λ env v end e. yes-last (eq-eqb _ 0 (e ∙ if1 .taken)) (pass-last (group .ensures .0)), group .ensures .1)
 
 same-length-2 : tie.Need-same-length-2
 same-length-2 c = search needs
 
 returns-2 : tie.Need-returns-2
-returns-2 c = ?
+unfolding delivery
+returns-2 c =
+    let group2 = c .before .before .group2 in
+    let if1 = c .before .before .before .before .before .if1 in
+    (λ env v end e. no-last (ne-eqb _ 0 (λ q. if1 .left (sym e ∙ q))) (pass-last (group2 .ensures .0)), group2 .ensures .1)
 
 pub delivery-spec : {M : Type 1} → statement M
 delivery-spec =

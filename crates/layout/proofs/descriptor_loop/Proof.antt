@@ -1,11 +1,12 @@
+-- `layout::descriptor_loop` meets its contract: the part that descriptor_loop_length gives, full of descriptors.
+-- Assumes nothing.
+use mathlib.Core.Path.{refl, sym, ap}
+use Prim.Native.Nat.{ℕ, _+_, _*_}
 use borrow.Author.Needs.{needs}
+use Rattle.grammar.specs.Tables.{descriptor-loop}
+use Rattle.layout.proofs.Lays.{finished, pass, ruled, framed, filled}
 use Rattle.layout.proofs.descriptor_loop.Statement.{statement}
 use Rattle.layout.proofs.descriptor_loop.Tie as tie
-use Rattle.layout.proofs.descriptor_loop.Reads as reads
-use Rattle.layout.proofs.descriptor_loop.Lts as lts
-use Rattle.layout.proofs.group.Reads as group-reads
-use Rattle.layout.proofs.splice_descriptors.Reads as splice-descriptors-reads
-use Rattle.layout.proofs.value.Reads as value-reads
 
 value-requires : tie.Need-value-requires
 value-requires c κs = search needs
@@ -29,7 +30,17 @@ same-length : tie.Need-same-length
 same-length c = search needs
 
 returns : tie.Need-returns
-returns c = ?
+unfolding descriptor-loop
+returns c =
+    let splice-descriptors = c .before .before .splice-descriptors in
+    let group = c .before .before .before .before .before .before .before .group in
+    let value = c .before .before .before .before .before .before .before .before .before .before .value in (
+      λ env end.
+          pass (group .ensures .0)
+          (framed _ (ap (λ (n : ℕ). group .result .at + 8 * n) (sym (value .ensures .0)))
+          (ruled (filled (splice-descriptors .ensures .0 _) (finished refl)) (finished refl)) (finished refl)),
+      splice-descriptors .ensures .1,
+    )
 
 pub descriptor-loop-spec : {M : Type 1} → statement M
 descriptor-loop-spec =

@@ -1,11 +1,11 @@
+-- `layout::dtmf_descriptor` meets its contract: a group, then as many characters as its count says.
+-- Assumes nothing.
+use mathlib.Core.Path.{refl, sym}
 use borrow.Author.Needs.{needs}
+use Rattle.grammar.specs.Tables.{dtmf-descriptor}
+use Rattle.layout.proofs.Lays.{finished, pass, many}
 use Rattle.layout.proofs.dtmf_descriptor.Statement.{statement}
 use Rattle.layout.proofs.dtmf_descriptor.Tie as tie
-use Rattle.layout.proofs.dtmf_descriptor.Reads as reads
-use Rattle.layout.proofs.dtmf_descriptor.Lts as lts
-use Rattle.layout.proofs.group.Reads as group-reads
-use Rattle.layout.proofs.groups.Reads as groups-reads
-use Rattle.layout.proofs.value.Reads as value-reads
 
 add-value : tie.Need-add-value
 add-value c = search needs
@@ -32,7 +32,12 @@ same-length : tie.Need-same-length
 same-length c = search needs
 
 returns : tie.Need-returns
-returns c = ?
+unfolding dtmf-descriptor
+returns c =
+    let groups = c .before .before .groups in
+    let group = c .before .before .before .before .before .before .before .group in
+    let value = c .before .before .before .before .before .before .before .before .before .before .value in
+    (λ env end. pass (group .ensures .0) (many _ (sym (value .ensures .0)) (groups .ensures .0) (finished refl)), groups .ensures .1)
 
 pub dtmf-descriptor-spec : {M : Type 1} → statement M
 dtmf-descriptor-spec =

@@ -1,10 +1,12 @@
+-- `layout::insert_component` meets its contract: the tag, and a splice_time() unless the splice is immediate.
+-- Assumes nothing.
+use mathlib.Core.Path.{refl, sym, _∙_}
+use borrow.Author.Tests.{eq-eqb, ne-eqb}
+use Rattle.grammar.specs.Tables.{insert-component}
+use Rattle.layout.proofs.Lays.{finished, pass, yes-last, no-last}
 use borrow.Author.Needs.{needs}
 use Rattle.layout.proofs.insert_component.Statement.{statement}
 use Rattle.layout.proofs.insert_component.Tie as tie
-use Rattle.layout.proofs.insert_component.Reads as reads
-use Rattle.layout.proofs.insert_component.Lts as lts
-use Rattle.layout.proofs.group.Reads as group-reads
-use Rattle.layout.proofs.splice_time.Reads as splice-time-reads
 
 slice-aggregate-group : tie.Need-slice-aggregate-group
 slice-aggregate-group c = search needs
@@ -19,13 +21,22 @@ same-length : tie.Need-same-length
 same-length c = search needs
 
 returns : tie.Need-returns
-returns c = ?
+unfolding insert-component
+returns c =
+    let splice-time = c .before .before .splice-time in
+    let if1 = c .before .before .before .before .if1 in
+    let group = c .before .before .before .before .before .before .before .group in
+    (λ env end e. pass (group .ensures .0) (yes-last (eq-eqb _ 0 (e ∙ if1 .taken)) (splice-time .ensures .0 _ end)), splice-time .ensures .1)
 
 same-length-2 : tie.Need-same-length-2
 same-length-2 c = search needs
 
 returns-2 : tie.Need-returns-2
-returns-2 c = ?
+unfolding insert-component
+returns-2 c =
+    let if1 = c .if1 in
+    let group = c .before .before .before .group in
+    (λ env end e. pass (group .ensures .0) (no-last (ne-eqb _ 0 (λ q. if1 .left (sym e ∙ q))) (finished refl)), group .ensures .1)
 
 pub insert-component-spec : {M : Type 1} → statement M
 insert-component-spec =

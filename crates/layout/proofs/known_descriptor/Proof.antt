@@ -1,13 +1,41 @@
+-- `layout::known_descriptor` meets its contract: by tag, the table of the descriptor's kind.
+-- Assumes nothing.
+use mathlib.Core.Path.{_≡_, ap, _∙_, subst, sym}
+use Prim.Native.Nat.{ℕ, _<_}
+use native.Mathlib.Omega.{arith}
+use lib.Dec.{eqb}
 use borrow.Author.Needs.{needs}
+use Rattle.grammar.specs.Meaning.{Env, valueOf}
+use Rattle.grammar.specs.Tables.{bytes, avail-descriptor, time-descriptor, known-descriptor}
+use Rattle.descriptors.specs.declared.Kind.{Kind}
+use Rattle.descriptors.specs.declared.Kind.the-variants.{Avail, Dtmf, Segmentation, Time, Audio, Unknown}
+use Rattle.descriptors.specs.Walk.{byTag, tableOf}
+use Rattle.descriptors.proofs.ByKind.{no-tag}
+use Rattle.layout.specs.Layout.{Source, Plan, Lays}
+use Rattle.layout.proofs.Lays.{pass-last, chosen}
 use Rattle.layout.proofs.known_descriptor.Statement.{statement}
 use Rattle.layout.proofs.known_descriptor.Tie as tie
-use Rattle.layout.proofs.known_descriptor.Reads as reads
-use Rattle.layout.proofs.known_descriptor.Lts as lts
-use Rattle.layout.proofs.audio_descriptor.Reads as audio-descriptor-reads
-use Rattle.layout.proofs.bytes.Reads as bytes-reads
-use Rattle.layout.proofs.dtmf_descriptor.Reads as dtmf-descriptor-reads
-use Rattle.layout.proofs.group.Reads as group-reads
-use Rattle.layout.proofs.segmentation_descriptor.Reads as segmentation-descriptor-reads
+
+-- the table of the kind that the tag says
+by-tag : {env : Env} {v : Source} {end : ℕ} {π ρ : Plan} (t : ℕ) → valueOf env "splice_descriptor_tag" ≡ t
+    → Lays (tableOf (byTag t)) env v end π ρ → Lays (known-descriptor (bytes "private_byte")) env v end π ρ
+unfolding byTag tableOf known-descriptor
+by-tag {env} t e =
+    let is-it : (x : ℕ) → eqb (valueOf env "splice_descriptor_tag") x ≡ eqb t x = λ x. ap (λ (y : ℕ). eqb y x) e in
+    chosen tableOf (eqb t 0) Avail _ (is-it 0) (λ r. r)
+    (chosen tableOf (eqb t 1) Dtmf _ (is-it 1) (λ r. r)
+    (chosen tableOf (eqb t 2) Segmentation _ (is-it 2) (λ r. r)
+    (chosen tableOf (eqb t 3) Time _ (is-it 3) (λ r. r)
+    (chosen tableOf (eqb t 4) Audio Unknown (is-it 4) (λ r. r) (λ r. r)))))
+
+-- bytes where the tag says none
+no-known : {env : Env} {v : Source} {end : ℕ} {π ρ : Plan} (t : ℕ) → valueOf env "splice_descriptor_tag" ≡ t → 4 < t
+    → Lays (bytes "private_byte") env v end π ρ → Lays (known-descriptor (bytes "private_byte")) env v end π ρ
+unfolding tableOf
+no-known {env} {v} {end} {π} {ρ} t e h l = by-tag t e (subst (λ (k : Kind). Lays (tableOf k) env v end π ρ) (sym (no-tag t h)) l)
+
+past : (t : ℕ) → (t ≡ 0 → ⊥) → (t ≡ 1 → ⊥) → (t ≡ 2 → ⊥) → (t ≡ 3 → ⊥) → (t ≡ 4 → ⊥) → 4 < t
+past t a b c d e = omega arith
 
 slice-aggregate-group : tie.Need-slice-aggregate-group
 slice-aggregate-group c = search needs
@@ -37,37 +65,63 @@ same-length : tie.Need-same-length
 same-length c = search needs
 
 returns : tie.Need-returns
-returns c = ?
+unfolding byTag tableOf avail-descriptor
+returns c =
+    let group = c .before .before .group in
+    let match = c .before .before .before .before .before .match in
+    (λ env e. by-tag 0 (e ∙ match .keys1) (pass-last (group .ensures .0)), group .ensures .1)
 
 same-length-2 : tie.Need-same-length-2
 same-length-2 c = search needs
 
 returns-2 : tie.Need-returns-2
-returns-2 c = ?
+unfolding byTag tableOf
+returns-2 c =
+    let dtmf-descriptor = c .before .before .dtmf-descriptor in
+    let match = c .before .before .before .before .match in
+    (λ env e. by-tag 1 (e ∙ match .keys2) (dtmf-descriptor .ensures .0 _ _), dtmf-descriptor .ensures .1)
 
 same-length-3 : tie.Need-same-length-3
 same-length-3 c = search needs
 
 returns-3 : tie.Need-returns-3
-returns-3 c = ?
+unfolding byTag tableOf
+returns-3 c =
+    let segmentation-descriptor = c .before .before .segmentation-descriptor in
+    let match = c .before .before .before .before .match in
+    (λ env e. by-tag 2 (e ∙ match .keys3) (segmentation-descriptor .ensures .0 _), segmentation-descriptor .ensures .1)
 
 same-length-4 : tie.Need-same-length-4
 same-length-4 c = search needs
 
 returns-4 : tie.Need-returns-4
-returns-4 c = ?
+unfolding byTag tableOf time-descriptor
+returns-4 c =
+    let group2 = c .before .before .group2 in
+    let match = c .before .before .before .before .before .match in
+    (λ env e. by-tag 3 (e ∙ match .keys4) (pass-last (group2 .ensures .0)), group2 .ensures .1)
 
 same-length-5 : tie.Need-same-length-5
 same-length-5 c = search needs
 
 returns-5 : tie.Need-returns-5
-returns-5 c = ?
+unfolding byTag tableOf
+returns-5 c =
+    let audio-descriptor = c .before .before .audio-descriptor in
+    let match = c .before .before .before .before .match in
+    (λ env e. by-tag 4 (e ∙ match .keys5) (audio-descriptor .ensures .0 _ _), audio-descriptor .ensures .1)
 
 same-length-6 : tie.Need-same-length-6
 same-length-6 c = search needs
 
 returns-6 : tie.Need-returns-6
-returns-6 c = ?
+returns-6 c =
+    let bytes = c .before .before .bytes in
+    let match = c .before .before .before .before .match in
+    let a = c .before .before .before .before .before .before .before .before .args in
+    let no = match .rest in
+    let tag : ℕ = a .splice-descriptor-tag in
+    (λ env e. no-known tag e (past tag (no .0 .0 .0 .0 .1) (no .0 .0 .0 .1) (no .0 .0 .1) (no .0 .1) (no .1)) (bytes .ensures .0 _ _ "private_byte"), bytes .ensures .1)
 
 pub known-descriptor-spec : {M : Type 1} → statement M
 known-descriptor-spec =

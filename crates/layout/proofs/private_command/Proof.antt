@@ -1,10 +1,10 @@
+-- `layout::private_command` meets its contract: the identifier, then bytes.
+-- Assumes nothing.
+use Rattle.grammar.specs.Tables.{private-command}
+use Rattle.layout.proofs.Lays.{pass}
 use borrow.Author.Needs.{needs}
 use Rattle.layout.proofs.private_command.Statement.{statement}
 use Rattle.layout.proofs.private_command.Tie as tie
-use Rattle.layout.proofs.private_command.Reads as reads
-use Rattle.layout.proofs.private_command.Lts as lts
-use Rattle.layout.proofs.bytes.Reads as bytes-reads
-use Rattle.layout.proofs.group.Reads as group-reads
 
 slice-aggregate-group : tie.Need-slice-aggregate-group
 slice-aggregate-group c = search needs
@@ -19,7 +19,11 @@ same-length : tie.Need-same-length
 same-length c = search needs
 
 returns : tie.Need-returns
-returns c = ?
+unfolding private-command
+returns c =
+    let bytes = c .before .before .bytes in
+    let group = c .before .before .before .before .before .before .group in
+    (λ env v. pass (group .ensures .0) (bytes .ensures .0 _ v "private_byte"), bytes .ensures .1)
 
 pub private-command-spec : {M : Type 1} → statement M
 private-command-spec =

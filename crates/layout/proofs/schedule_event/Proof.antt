@@ -1,12 +1,14 @@
+-- `layout::schedule_event` meets its contract: the flags, and unless the event is cancelled its times and numbers.
+-- Assumes nothing.
+use mathlib.Core.Path.{refl, sym, _∙_}
+use native.Mathlib.Omega.{arith}
+use borrow.Author.Tests.{eq-eqb, ne-eqb}
+use Rattle.grammar.specs.Tables.{schedule-event}
+use Rattle.layout.proofs.Lays.{finished, pass, yes-last, no-last, called}
+use Rattle.layout.proofs.Flags.{third}
 use borrow.Author.Needs.{needs}
 use Rattle.layout.proofs.schedule_event.Statement.{statement}
 use Rattle.layout.proofs.schedule_event.Tie as tie
-use Rattle.layout.proofs.schedule_event.Reads as reads
-use Rattle.layout.proofs.schedule_event.Lts as lts
-use Rattle.layout.proofs.avails.Reads as avails-reads
-use Rattle.layout.proofs.group.Reads as group-reads
-use Rattle.layout.proofs.schedule_times.Reads as schedule-times-reads
-use Rattle.layout.proofs.value.Reads as value-reads
 
 add-value : tie.Need-add-value
 add-value c = search needs
@@ -27,7 +29,12 @@ same-length : tie.Need-same-length
 same-length c = search needs
 
 returns : tie.Need-returns
-returns c = ?
+unfolding schedule-event
+returns c =
+    let if1 = c .if1 in
+    let group = c .before .before .before .group in
+    let value = c .before .before .before .before .before .before .value in
+    (λ env end. pass (group .ensures .0) (no-last (ne-eqb _ 0 (λ q. if1 .taken (value .ensures .0 ∙ q))) (finished refl)), group .ensures .1)
 
 add-value-3 : tie.Need-add-value-3
 add-value-3 c = search needs
@@ -60,10 +67,29 @@ avails-requires : tie.Need-avails-requires
 avails-requires c κs = search needs
 
 same-length-2 : tie.Need-same-length-2
-same-length-2 c = ?
+same-length-2 c =
+    let back = c .before .before .before .before .before .before .before .before .before .before in
+    let widths = back .before .before .before .before .before .before .before .before .before .before .before .widths in
+    omega (arith, widths .given)
 
 returns-2 : tie.Need-returns-2
-returns-2 c = ?
+unfolding schedule-event
+returns-2 c =
+    let avails = c .before .before .avails in
+    let schedule-times = c .before .before .before .before .before .before .schedule-times in
+    let group2 = c .before .before .before .before .before .before .before .before .before .before .group2 in
+    let value3 = c .before .before .before .before .before .before .before .before .before .before .before .before .before .value3 in
+    let back = c .before .before .before .before .before .before .before .before .before .before in
+    let value2 = back .before .before .before .before .before .before .value2 in
+    let if1 = back .before .before .before .before .before .before .before .before .before .if1 in
+    let group = back .before .before .before .before .before .before .before .before .before .before .before .before .group in
+    let back2 = back .before .before .before .before .before .before .before .before .before .before in
+    let value = back2 .before .before .before .before .before .value in (
+      λ env end. pass (group .ensures .0) (yes-last (eq-eqb _ 0 (sym (value .ensures .0) ∙ if1 .left))
+          (pass (group2 .ensures .0) (called (schedule-times .ensures .0 _ end (sym (value2 .ensures .0)))
+          (called (avails .ensures .0 _ _ end (third _ _ _ _ (value3 .ensures .0))) (finished refl))))),
+      avails .ensures .1,
+    )
 
 pub schedule-event-spec : {M : Type 1} → statement M
 schedule-event-spec =

@@ -1,11 +1,12 @@
+-- `layout::schedule_times` meets its contract: one time for all, or a tag and a time for each component.
+-- Assumes nothing.
+use mathlib.Core.Path.{refl, sym, _∙_}
+use borrow.Author.Tests.{eq-eqb, ne-eqb}
+use Rattle.grammar.specs.Tables.{schedule-times}
+use Rattle.layout.proofs.Lays.{finished, pass, pass-last, yes-last, no-last, many}
 use borrow.Author.Needs.{needs}
 use Rattle.layout.proofs.schedule_times.Statement.{statement}
 use Rattle.layout.proofs.schedule_times.Tie as tie
-use Rattle.layout.proofs.schedule_times.Reads as reads
-use Rattle.layout.proofs.schedule_times.Lts as lts
-use Rattle.layout.proofs.group.Reads as group-reads
-use Rattle.layout.proofs.groups.Reads as groups-reads
-use Rattle.layout.proofs.value.Reads as value-reads
 
 slice-aggregate-group : tie.Need-slice-aggregate-group
 slice-aggregate-group c = search needs
@@ -17,7 +18,11 @@ same-length : tie.Need-same-length
 same-length c = search needs
 
 returns : tie.Need-returns
-returns c = ?
+unfolding schedule-times
+returns c =
+    let group = c .before .before .group in
+    let if1 = c .before .before .before .before .before .if1 in
+    (λ env end p. yes-last (eq-eqb _ 1 (p ∙ if1 .taken)) (pass-last (group .ensures .0)), group .ensures .1)
 
 value-requires : tie.Need-value-requires
 value-requires c κs = search needs
@@ -38,7 +43,16 @@ same-length-2 : tie.Need-same-length-2
 same-length-2 c = search needs
 
 returns-2 : tie.Need-returns-2
-returns-2 c = ?
+unfolding schedule-times
+returns-2 c =
+    let groups = c .before .before .groups in
+    let group2 = c .before .before .before .before .before .before .before .group2 in
+    let value = c .before .before .before .before .before .before .before .before .before .before .value in
+    let if1 = c .before .before .before .before .before .before .before .before .before .before .before .if1 in (
+      λ env end p. no-last (ne-eqb _ 1 (λ q. if1 .left (sym p ∙ q)))
+          (pass (group2 .ensures .0) (many _ (sym (value .ensures .0)) (groups .ensures .0) (finished refl))),
+      groups .ensures .1,
+    )
 
 pub schedule-times-spec : {M : Type 1} → statement M
 schedule-times-spec =

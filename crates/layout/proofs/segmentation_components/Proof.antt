@@ -1,14 +1,18 @@
+-- `layout::segmentation_components` meets its contract: nothing, or a count and as many components.
+-- Assumes nothing.
+use mathlib.Core.Path.{refl, sym, _∙_}
 use borrow.Author.Needs.{needs}
+use borrow.Author.Tests.{eq-eqb, ne-eqb}
+use Rattle.grammar.specs.Tables.{segmentation-components}
+use Rattle.layout.proofs.Lays.{finished, pass, yes-last, no-last, many}
 use Rattle.layout.proofs.segmentation_components.Statement.{statement}
 use Rattle.layout.proofs.segmentation_components.Tie as tie
-use Rattle.layout.proofs.segmentation_components.Reads as reads
-use Rattle.layout.proofs.segmentation_components.Lts as lts
-use Rattle.layout.proofs.group.Reads as group-reads
-use Rattle.layout.proofs.groups.Reads as groups-reads
-use Rattle.layout.proofs.value.Reads as value-reads
 
 returns : tie.Need-returns
-returns c = ?
+unfolding segmentation-components
+returns c =
+    let if1 = c .if1 in
+    (λ env end e. no-last (ne-eqb _ 0 (λ q. if1 .taken (sym e ∙ q))) (finished refl), search needs)
 
 value-requires : tie.Need-value-requires
 value-requires c κs = search needs
@@ -29,7 +33,16 @@ same-length : tie.Need-same-length
 same-length c = search needs
 
 returns-2 : tie.Need-returns-2
-returns-2 c = ?
+unfolding segmentation-components
+returns-2 c =
+    let groups = c .before .before .groups in
+    let group = c .before .before .before .before .before .before .before .group in
+    let value = c .before .before .before .before .before .before .before .before .before .before .value in
+    let if1 = c .before .before .before .before .before .before .before .before .before .before .before .if1 in (
+      λ env end e.
+          yes-last (eq-eqb _ 0 (e ∙ if1 .left)) (pass (group .ensures .0) (many _ (sym (value .ensures .0)) (groups .ensures .0) (finished refl))),
+      groups .ensures .1,
+    )
 
 pub segmentation-components-spec : {M : Type 1} → statement M
 segmentation-components-spec =

@@ -1,13 +1,65 @@
+-- `layout::segmentation_descriptor` meets its contract: where it is not cancelled, one line for each of its parts.
+-- Assumes nothing.
+use mathlib.Core.Path.{_≡_, refl, sym, _∙_}
+use mathlib.Core.List.{[], _∷_}
+use lib.ListN.{length}
 use borrow.Author.Needs.{needs}
+use borrow.Author.Tests.{eq-eqb, ne-eqb}
+use Rattle.grammar.specs.Syntax.{Prog, field, is, done, fields, branch, call}
+use Rattle.grammar.specs.Meaning.{Env, valueOf}
+use Rattle.grammar.specs.Tables.{segmentation-end, segmentation-descriptor}
+use Rattle.layout.specs.Layout.{Plan, plan, source, Lays}
+use Rattle.layout.proofs.Lays.{finished, pass, pass-last, yes, no, yes-last, no-last, called}
+use Rattle.layout.proofs.Flags.{third}
 use Rattle.layout.proofs.segmentation_descriptor.Statement.{statement}
 use Rattle.layout.proofs.segmentation_descriptor.Tie as tie
-use Rattle.layout.proofs.segmentation_descriptor.Reads as reads
-use Rattle.layout.proofs.segmentation_descriptor.Lts as lts
-use Rattle.layout.proofs.delivery.Reads as delivery-reads
-use Rattle.layout.proofs.group.Reads as group-reads
-use Rattle.layout.proofs.segmentation_components.Reads as segmentation-components-reads
-use Rattle.layout.proofs.segmentation_end.Reads as segmentation-end-reads
-use Rattle.layout.proofs.value.Reads as value-reads
+
+-- what comes after the components
+abbrev duration : Prog
+duration =
+    branch (is "segmentation_duration_flag" 1) (fields (field 40 "segmentation_duration" ∷ []) done) done
+    (call segmentation-end
+    done)
+
+-- the places where the duration flag is read, and where the function starts
+abbrev flagged : tie.After-slice-known5 → tie.After-value3
+flagged c = c .before .before .before .before .before .before .before .before .before .before .before .before .before .before .before .before
+
+abbrev start : tie.After-slice-known5 → tie.Start
+start c = flagged c .before .before .before .before .before .before .before .before .before .before .before .before .before .before .before .before
+
+-- up to there
+up-to : (c : tie.After-slice-known5) (env : Env) {ρ : Plan}
+    → ((e : Env) → valueOf e "segmentation_duration_flag" ≡ flagged c .value3 .result
+    → Lays duration e (source (start c .args .section .now) (start c .args .sheet .now)) (start c .args .end)
+    (plan (c .before .before .segmentation-components .result) (c .before .before .segmentation-components .last .1 .1 .0)) ρ)
+    → Lays segmentation-descriptor env (source (start c .args .section .now) (start c .args .sheet .now)) (start c .args .end)
+    (plan (start c .args .p) (start c .args .widths .now)) ρ
+unfolding segmentation-descriptor
+up-to c env h =
+    let segmentation-components = c .before .before .segmentation-components in
+    let delivery = c .before .before .before .before .before .before .delivery in
+    let group2 = c .before .before .before .before .before .before .before .before .before .before .group2 in
+    let value4 = c .before .before .before .before .before .before .before .before .before .before .before .before .before .value4 in
+    let value3 = flagged c .value3 in
+    let value2 = flagged c .before .before .before .value2 in
+    let if1 = flagged c .before .before .before .before .if1 in
+    let group = flagged c .before .before .before .before .before .before .before .group in
+    let value = flagged c .before .before .before .before .before .before .before .before .before .before .value in
+    pass (group .ensures .0)
+    (yes-last (eq-eqb _ 0 (sym (value .ensures .0) ∙ if1 .left))
+    (pass (group2 .ensures .0)
+    (called (delivery .ensures .0 _ _ _ (third _ _ _ _ (value4 .ensures .0)))
+    (called (segmentation-components .ensures .0 _ _ (sym (value2 .ensures .0))) (h _ (sym (value3 .ensures .0)))))))
+
+-- the memory is as long as it was
+long : (c : tie.After-slice-known5) → length (c .before .before .segmentation-components .last .1 .1 .0) ≡ length (start c .args .widths .now)
+long c =
+    let widths4 = c .before .widths4 in
+    let widths3 = c .before .before .before .before .before .widths3 in
+    let widths2 = c .before .before .before .before .before .before .before .before .before .widths2 in
+    let widths = flagged c .before .before .before .before .before .before .widths in
+    widths4 .given ∙ widths3 .given ∙ widths2 .given ∙ widths .given
 
 add-value : tie.Need-add-value
 add-value c = search needs
@@ -28,7 +80,12 @@ same-length : tie.Need-same-length
 same-length c = search needs
 
 returns : tie.Need-returns
-returns c = ?
+unfolding segmentation-descriptor
+returns c =
+    let if1 = c .if1 in
+    let group = c .before .before .before .group in
+    let value = c .before .before .before .before .before .before .value in
+    (λ env. pass (group .ensures .0) (no-last (ne-eqb _ 0 (λ q. if1 .taken (value .ensures .0 ∙ q))) (finished refl)), group .ensures .1)
 
 value-requires-2 : tie.Need-value-requires-2
 value-requires-2 c κs = search needs
@@ -73,19 +130,39 @@ segmentation-end-requires : tie.Need-segmentation-end-requires
 segmentation-end-requires c κs = search needs
 
 same-length-2 : tie.Need-same-length-2
-same-length-2 c = ?
+same-length-2 c =
+    let widths6 = c .before .widths6 in
+    let widths5 = c .before .before .before .before .before .widths5 in
+    widths6 .given ∙ widths5 .given ∙ long (c .before .before .before .before .before .before .before .before .before .before)
 
 returns-2 : tie.Need-returns-2
-returns-2 c = ?
+returns-2 c =
+    let segmentation-end = c .before .before .segmentation-end in
+    let group3 = c .before .before .before .before .before .before .group3 in
+    let if2 = c .before .before .before .before .before .before .before .before .before .if2 in (
+      λ env.
+          up-to (c .before .before .before .before .before .before .before .before .before .before) env
+          (λ e q. yes (eq-eqb _ 1 (q ∙ if2 .taken)) (pass-last (group3 .ensures .0)) (called (segmentation-end .ensures .0 _) (finished refl))),
+      segmentation-end .ensures .1,
+    )
 
 segmentation-end-requires-2 : tie.Need-segmentation-end-requires-2
 segmentation-end-requires-2 c κs = search needs
 
 same-length-3 : tie.Need-same-length-3
-same-length-3 c = ?
+same-length-3 c =
+    let widths7 = c .before .widths7 in
+    widths7 .given ∙ long (c .before .before .before .before .before)
 
 returns-3 : tie.Need-returns-3
-returns-3 c = ?
+returns-3 c =
+    let segmentation-end2 = c .before .before .segmentation-end2 in
+    let if2 = c .before .before .before .before .if2 in (
+      λ env.
+          up-to (c .before .before .before .before .before) env
+          (λ e q. no (ne-eqb _ 1 (λ o. if2 .left (sym q ∙ o))) (finished refl) (called (segmentation-end2 .ensures .0 _) (finished refl))),
+      segmentation-end2 .ensures .1,
+    )
 
 pub segmentation-descriptor-spec : {M : Type 1} → statement M
 segmentation-descriptor-spec =

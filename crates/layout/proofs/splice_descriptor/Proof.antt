@@ -1,12 +1,48 @@
+-- `layout::splice_descriptor` meets its contract: the part that descriptor_length gives, by its identifier.
+-- Assumes nothing.
+use mathlib.Core.Path.{_≡_, refl, sym, ap, _∙_}
+use Prim.Native.Nat.{ℕ, _+_, _*_}
 use borrow.Author.Needs.{needs}
+use borrow.Author.Tests.{eq-eqb, ne-eqb}
+use Rattle.grammar.specs.Syntax.{Prog, is, done, branch}
+use Rattle.grammar.specs.Meaning.{Env, valueOf}
+use Rattle.grammar.specs.Tables.{bytes, known-descriptor, splice-descriptor}
+use Rattle.layout.specs.Layout.{Plan, plan, source, Lays}
+use Rattle.layout.proofs.Lays.{finished, pass, yes-last, no-last, framed}
 use Rattle.layout.proofs.splice_descriptor.Statement.{statement}
 use Rattle.layout.proofs.splice_descriptor.Tie as tie
-use Rattle.layout.proofs.splice_descriptor.Reads as reads
-use Rattle.layout.proofs.splice_descriptor.Lts as lts
-use Rattle.layout.proofs.bytes.Reads as bytes-reads
-use Rattle.layout.proofs.group.Reads as group-reads
-use Rattle.layout.proofs.known_descriptor.Reads as known-descriptor-reads
-use Rattle.layout.proofs.value.Reads as value-reads
+
+-- what comes after the identifier
+abbrev known : Prog
+known = branch (is "identifier" 0x43554549) (known-descriptor (bytes "private_byte")) (bytes "private_byte") done
+
+-- the places where the part begins, and where the function starts
+abbrev begun : tie.After-slice-known3 → tie.After-group
+begun c = c .before .before .before .before .before .before .before .before .before
+
+abbrev start : tie.After-slice-known3 → tie.Start
+start c = begun c .before .before .before .before .before .before .before .before .before .before
+
+-- up to there
+up-to : (c : tie.After-slice-known3) (env : Env) (end : ℕ) {ρ : Plan}
+    → ((e : Env) → valueOf e "identifier" ≡ c .before .before .before .before .before .value3 .result
+    → valueOf e "splice_descriptor_tag" ≡ begun c .before .before .before .before .before .before .value .result
+    → Lays known e (source (start c .args .section .now) (start c .args .sheet .now))
+    (begun c .group .result .at + 8 * begun c .before .before .before .value2 .result)
+    (plan (c .before .before .group2 .result) (c .before .before .group2 .last .0)) ρ)
+    → Lays splice-descriptor env (source (start c .args .section .now) (start c .args .sheet .now)) end
+    (plan (start c .args .p) (start c .args .widths .now)) ρ
+unfolding splice-descriptor
+up-to c env end h =
+    let group2 = c .before .before .group2 in
+    let value3 = c .before .before .before .before .before .value3 in
+    let group = begun c .group in
+    let value2 = begun c .before .before .before .value2 in
+    let value = begun c .before .before .before .before .before .before .value in
+    pass (group .ensures .0)
+    (framed _ (ap (λ (n : ℕ). group .result .at + 8 * n) (sym (value2 .ensures .0)))
+    (pass (group2 .ensures .0) (h _ (sym (value3 .ensures .0)) (sym (value .ensures .0))))
+    (finished refl))
 
 value-requires : tie.Need-value-requires
 value-requires c κs = search needs
@@ -51,13 +87,26 @@ same-length : tie.Need-same-length
 same-length c = search needs
 
 returns : tie.Need-returns
-returns c = ?
+returns c =
+    let known-descriptor = c .before .before .known-descriptor in
+    let if1 = c .before .before .before .before .if1 in (
+      λ env end.
+          up-to (c .before .before .before .before .before) env end (λ e q tag. yes-last (eq-eqb _ 0x43554549 (q ∙ if1 .taken)) (known-descriptor .ensures .0 _ tag)),
+      known-descriptor .ensures .1,
+    )
 
 same-length-2 : tie.Need-same-length-2
 same-length-2 c = search needs
 
 returns-2 : tie.Need-returns-2
-returns-2 c = ?
+returns-2 c =
+    let bytes = c .before .before .bytes in
+    let if1 = c .before .before .before .before .if1 in (
+      λ env end.
+          up-to (c .before .before .before .before .before) env end
+          (λ e q tag. no-last (ne-eqb _ 0x43554549 (λ o. if1 .left (sym q ∙ o))) (bytes .ensures .0 _ _ "private_byte")),
+      bytes .ensures .1,
+    )
 
 pub splice-descriptor-spec : {M : Type 1} → statement M
 splice-descriptor-spec =

@@ -1,46 +1,72 @@
+-- `layout::splice_schedule` meets its contract. The loop's invariant: the events that are left, from here on, are all of them.
+-- Assumes nothing.
+use mathlib.Core.Path.{_≡_, refl, sym}
+use Prim.Native.Nat.{ℕ, _-_, _≤_}
+use native.Mathlib.Omega.{arith}
+use lib.ListN.{length}
+use Rattle.grammar.specs.Meaning.{Env}
+use Rattle.grammar.specs.Tables.{schedule-event, splice-schedule}
+use Rattle.layout.specs.Layout.{source, plan, walk, Room}
+use Rattle.layout.proofs.Lays.{finished, pass, repeated}
+use Rattle.layout.proofs.Counts.{Going, going-first, going-on, going-over}
+use borrow.Author.Needs.{needs}
 use Rattle.layout.proofs.splice_schedule.Statement.{statement}
 use Rattle.layout.proofs.splice_schedule.Tie as tie
-use Rattle.layout.proofs.splice_schedule.Reads as reads
-use Rattle.layout.proofs.splice_schedule.Lts as lts
-use Rattle.layout.proofs.group.Reads as group-reads
-use Rattle.layout.proofs.schedule_event.Reads as schedule-event-reads
-use Rattle.layout.proofs.value.Reads as value-reads
 
 abbrev Inv-loop : tie.InvT-loop
-Inv-loop section sheet widths₀ splice-count place₀ counter₀ widths place counter = ?
+Inv-loop section sheet widths₀ splice-count place₀ counter₀ widths place counter =
+    (counter ≤ splice-count) × (length widths ≡ length widths₀) × Room place widths
+    × ((env : Env) (end : ℕ) → Going splice-count (walk schedule-event env (source section sheet) end) (plan place₀ widths₀) counter (plan place widths))
 
 abbrev μ-loop : tie.MeasureT-loop
-μ-loop section sheet widths₀ splice-count place₀ counter₀ widths place counter = ?
+μ-loop section sheet widths₀ splice-count place₀ counter₀ widths place counter = splice-count - counter
 
 value-requires : tie.Need-value-requires Inv-loop μ-loop
-value-requires c κs = ?
+value-requires c κs = search needs
 
 slice-aggregate-group : tie.Need-slice-aggregate-group Inv-loop μ-loop
-slice-aggregate-group c = ?
+slice-aggregate-group c = search needs
 
 group-requires : tie.Need-group-requires Inv-loop μ-loop
-group-requires c κs = ?
+group-requires c κs = search needs
 
 loop-holds : tie.Need-loop-holds Inv-loop μ-loop
-loop-holds c = ?
+loop-holds c =
+    let group = c .before .before .group in
+    (omega arith, search needs, group .ensures .1, λ env end. going-first)
 
 schedule-event-requires : tie.Need-schedule-event-requires Inv-loop μ-loop
-schedule-event-requires c κs = ?
+schedule-event-requires c κs = c .before .before .loop .inv .2
 
 add-counter : tie.Need-add-counter Inv-loop μ-loop
-add-counter c = ?
+add-counter c = search needs
 
 loop-less : tie.Need-loop-less Inv-loop μ-loop
-loop-less c = ?
+loop-less c = search needs
 
 loop-again : tie.Need-loop-again Inv-loop μ-loop
-loop-again c = ?
+loop-again c =
+    let schedule-event = c .before .before .schedule-event in
+    let loop = c .before .before .before .before .before .loop in (
+      omega arith,
+      search needs,
+      schedule-event .ensures .1,
+      λ env end. going-on (omega arith) (loop .inv .3 env end) (sym (schedule-event .ensures .0 env end .lays)),
+    )
 
 same-length : tie.Need-same-length Inv-loop μ-loop
-same-length c = ?
+same-length c = search needs
 
 returns : tie.Need-returns Inv-loop μ-loop
-returns c = ?
+unfolding splice-schedule
+returns c =
+    let loop = c .before .loop in
+    let group = c .before .before .before .before .group in
+    let value = c .before .before .before .before .before .before .before .value in (
+      λ env end. pass (group .ensures .0) (repeated _ (sym (value .ensures .0))
+          (going-over (omega arith) (loop .inv .3 _ end)) (finished refl)),
+      loop .inv .2,
+    )
 
 pub splice-schedule-spec : {M : Type 1} → statement M
 splice-schedule-spec =

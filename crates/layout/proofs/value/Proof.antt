@@ -57,10 +57,12 @@ returns-2 c =
 returns-3 : tie.Need-returns-3
 unfolding source
 returns-3 c =
-    let a = c .before .before .before .before .args in
-    (sym
-    (ap (λ (b : Bool). cond b (fieldOf (a .section .now) (a .at) (a .width)) (held (getD (a .sheet .now) (a .number) 0) (a .width))) (ne-eqb _ 0 (c .before .if1 .left))
-    ∙ ap (λ (x : ℕ). held x (a .width)) (List·getD-eq-default (a .sheet .now) 0 (c .if2 .left)) ∙ held-none (a .width)), pow-pos (a .width))
+    let a = c .before .before .before .before .args in (
+      sym
+          (ap (λ (b : Bool). cond b (fieldOf (a .section .now) (a .at) (a .width)) (held (getD (a .sheet .now) (a .number) 0) (a .width))) (ne-eqb _ 0 (c .before .if1 .left))
+          ∙ ap (λ (x : ℕ). held x (a .width)) (List·getD-eq-default (a .sheet .now) 0 (c .if2 .left)) ∙ held-none (a .width)),
+      pow-pos (a .width),
+    )
 
 pub value-spec : {M : Type 1} → statement M
 value-spec =
