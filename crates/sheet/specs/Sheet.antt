@@ -1,0 +1,115 @@
+-- The field sheet: every field of a section as one number, in order, and the way back.
+-- Assumes nothing.
+use Prim.Native.Nat.{ℕ, zero, suc, _+_, _-_, _*_, _/_}
+use mathlib.Core.Bool.{Bool, true, false, cond, not, _&&_}
+use mathlib.Core.List.{List, [], _∷_, _++_}
+use lib.ListN.{length, take, drop, replicate}
+use lib.Dec.{leb, ltb, eqb}
+use Rattle.bits.specs.Bits.{bit, writtenOf, writeAll}
+use Rattle.crc.specs.Crc.{crc32}
+use Rattle.units.specs.declared.refusals.Written.{Written}
+use Rattle.units.specs.Refusals.{first}
+use Rattle.units.specs.Answers.{answer, memory}
+use Rattle.grammar.specs.Meaning.{read}
+use Rattle.grammar.specs.Tables.{splice-info-section}
+use Rattle.grammar.specs.Traces.{Trace, numbers}
+use Rattle.descriptors.specs.Loop.{traceOf}
+use Rattle.layout.specs.Layout.{Plan, planOf}
+use Rattle.section.specs.declared.Verdict.{Verdict}
+use Rattle.section.specs.declared.Verdict.the-variants.{Accepted, Refused}
+use Rattle.section.specs.Accept.{acceptRow, acceptOf}
+
+-- ---- section to sheet
+
+-- what the grammar reads of the section, up to CRC_32
+unfoldable pub sectionTrace : List ℕ → Trace
+sectionTrace s = traceOf (read splice-info-section [] (bit s) (8 * (length s - 4)) 0)
+
+-- all numbers but the fifth, section_length
+abbrev pub unsized : List ℕ → List ℕ
+unsized ns = take 4 ns ++ drop 5 ns
+
+-- the sheet of an accepted section
+unfoldable pub sheetOf : List ℕ → List ℕ
+sheetOf s = unsized (numbers (sectionTrace s))
+
+-- the first of two rows that applies
+abbrev pub orElse : ℕ → ℕ → ℕ
+orElse zero b = b
+orElse (suc a) b = suc a
+
+-- rows 1 to 10, then ROOM
+unfoldable pub sheetRow : List ℕ → ℕ → ℕ
+sheetRow s room = orElse (acceptRow s) (first ((ltb room (length (sheetOf s)), 11) ∷ []))
+
+-- what the way from a section to its sheet answers
+unfoldable pub toSheet : List ℕ → List ℕ → Written
+toSheet s out = answer (sheetRow s (length out)) (length (sheetOf s))
+
+-- what the lent memory then holds
+unfoldable pub toSheetInto : List ℕ → List ℕ → List ℕ
+toSheetInto s out = memory (sheetRow s (length out)) (sheetOf s) out
+
+-- ---- sheet to section
+
+-- the fields that a section with the sheet x would have
+unfoldable pub planFor : List ℕ → Plan
+planFor x = planOf [] x (replicate 32768 0)
+
+-- how many bytes it would have, those of CRC_32 among them
+unfoldable pub lengthFor : List ℕ → ℕ
+lengthFor x = planFor x .at / 8 + 4
+
+-- a number for each of those fields, at least the header's and at most one a bit, and no more than 4,092 bytes before CRC_32
+unfoldable pub fitting : List ℕ → Bool
+fitting x = leb 11 (length x) && (leb (length x) 32768 && (leb (planFor x .at) 32736 && eqb (planFor x .number) (length x)))
+
+-- fields of these widths with these values
+abbrev pub pairs : List ℕ → List ℕ → List (ℕ × ℕ)
+pairs [] vs = []
+pairs (w ∷ ws) [] = []
+pairs (w ∷ ws) (v ∷ vs) = (w, v) ∷ pairs ws vs
+
+-- the fields m to n of a plan with their values
+abbrev pub fieldsBetween : ℕ → ℕ → List ℕ → List ℕ → List (ℕ × ℕ)
+fieldsBetween m n ws xs = pairs (take (n - m) (drop m ws)) (take (n - m) (drop m xs))
+
+-- memory with the numbers of x in a section of n bytes: section_length stands after the fourth, at bit 12, and takes 12 bits
+unfoldable pub filled : List ℕ → ℕ → List ℕ → List ℕ → List ℕ
+filled x n ws m =
+    writeAll (writtenOf (writeAll m 0 (fieldsBetween 0 4 ws x)) 12 12 (n - 3)) 24 (fieldsBetween 4 (length x) ws x)
+
+-- the same with CRC_32 in its last four bytes
+unfoldable pub summed : ℕ → List ℕ → List ℕ
+summed n m = writtenOf m (8 * (n - 4)) 32 (crc32 (take (n - 4) m))
+
+-- the bytes that the numbers of a sheet make
+unfoldable pub sectionOf : List ℕ → List ℕ
+sectionOf x = cond (fitting x) (take (lengthFor x) (summed (lengthFor x) (filled x (lengthFor x) (planFor x .widths) (replicate 4096 0)))) []
+
+unfoldable pub isAccepted : Verdict → Bool
+isAccepted Accepted = true
+isAccepted (Refused r) = false
+
+-- the same numbers
+unfoldable pub same : List ℕ → List ℕ → Bool
+same [] [] = true
+same [] (y ∷ ys) = false
+same (x ∷ xs) [] = false
+same (x ∷ xs) (y ∷ ys) = eqb x y && same xs ys
+
+-- the bytes s are a section, and x is its sheet
+unfoldable pub isSheetOf : List ℕ → List ℕ → Bool
+isSheetOf x s = isAccepted (acceptOf s) && same (sheetOf s) x
+
+-- SHEET, then ROOM. That the first is there exactly when x is the sheet of no section is proved
+unfoldable pub sectionRow : List ℕ → ℕ → ℕ
+sectionRow x room = first ((not (isSheetOf x (sectionOf x)), 15) ∷ (ltb room (length (sectionOf x)), 11) ∷ [])
+
+-- what the way from a sheet to its section answers
+unfoldable pub toSection : List ℕ → List ℕ → Written
+toSection x out = answer (sectionRow x (length out)) (length (sectionOf x))
+
+-- what the lent memory then holds
+unfoldable pub toSectionInto : List ℕ → List ℕ → List ℕ
+toSectionInto x out = memory (sectionRow x (length out)) (sectionOf x) out

@@ -1,0 +1,151 @@
+// The field sheet of a section, every field as one number in order, and the section of a field sheet.
+ghost use mathlib.Core.Path.{_≡_};
+ghost use Prim.Native.Nat.{_+_, _-_, _≤_};
+ghost use mathlib.Core.List.{_++_};
+ghost use lib.ListN.{length, take, drop};
+ghost use Rattle.bits.specs.Bits.{readAll, writeAll};
+ghost use Rattle.layout.specs.Layout.{put};
+ghost use Rattle.sheet.specs.Sheet.{toSheet, toSheetInto, fieldsBetween, filled, summed, same, isSheetOf, toSection, toSectionInto};
+use section::Verdict;
+use units::Refusal;
+use units::Written;
+
+// The numbers of a section's sheet, written to the front of out.
+pub fn from_section(section: &[u8], out: &mut [u64]) -> Written
+    ensures { λ r. ⌜ (r ≡ toSheet (now (section .entry)) (now (out .entry))) × (now (out .exit) ≡ toSheetInto (now (section .entry)) (now (out .entry))) ⌝ }
+{
+    if let Verdict::Refused(refusal) = section::accept(section) {
+        return Written::Refused(refusal);
+    }
+    let mut widths = [0u8; 32768];
+    let fields = layout::plan(section, &[], &mut widths);
+    let n = fields.number;
+    if out.len() < n {
+        return Written::Refused(Refusal::Room);
+    }
+    // section_length, at bit 12, is left out
+    read_fields(section, &widths, 0, 4, 0, out);
+    read_fields(section, &widths, 4, n, 24, out);
+    Written::Count(n)
+}
+
+// The bytes of the section that has the sheet, written to the front of out. What the numbers make counts only if it is a
+// section and has that sheet.
+pub fn to_section(sheet: &[u64], out: &mut [u8]) -> Written
+    ensures { λ r. ⌜ (r ≡ toSection (now (sheet .entry)) (now (out .entry))) × (now (out .exit) ≡ toSectionInto (now (sheet .entry)) (now (out .entry))) ⌝ }
+{
+    if sheet.len() < 11 {
+        return Written::Refused(Refusal::Sheet);
+    }
+    if 32768 < sheet.len() {
+        return Written::Refused(Refusal::Sheet);
+    }
+    let mut widths = [0u8; 32768];
+    let fields = layout::plan(&[], sheet, &mut widths);
+    if 32736 < fields.at {
+        return Written::Refused(Refusal::Sheet);
+    }
+    if fields.number != sheet.len() {
+        return Written::Refused(Refusal::Sheet);
+    }
+    let n = fields.at / 8 + 4;
+    let mut memory = [0u8; 4096];
+    compose(&mut memory, sheet, &widths, n);
+    if !is_sheet_of(sheet, &memory[..n], &mut widths) {
+        return Written::Refused(Refusal::Sheet);
+    }
+    if out.len() < n {
+        return Written::Refused(Refusal::Room);
+    }
+    copy(&memory[..n], out);
+    Written::Count(n)
+}
+
+// Whether the bytes are a section and have that sheet.
+fn is_sheet_of(sheet: &[u64], section: &[u8], widths: &mut [u8; 32768]) -> bool
+    ensures { λ r. ⌜ r ≡ isSheetOf (now (sheet .entry)) (now (section .entry)) ⌝ }
+{
+    if let Verdict::Refused(_) = section::accept(section) {
+        return false;
+    }
+    let fields = layout::plan(section, &[], widths);
+    let n = fields.number;
+    if n != sheet.len() {
+        return false;
+    }
+    if !same_fields(section, sheet, widths, 0, 4, 0) {
+        return false;
+    }
+    same_fields(section, sheet, widths, 4, n, 24)
+}
+
+// Puts the numbers of a sheet, section_length and CRC_32 into the first n bytes.
+fn compose(memory: &mut [u8; 4096], sheet: &[u64], widths: &[u8], n: usize)
+    requires { ⌜ (4 ≤ n) × (n ≤ 4096) × (4 ≤ length (now sheet)) × (length (now sheet) ≤ 32768) × (length (now sheet) ≤ length (now widths)) ⌝ }
+    ensures { λ _. ⌜ now (memory .exit) ≡ summed n (filled (now (sheet .entry)) n (now (widths .entry)) (now (memory .entry))) ⌝ }
+{
+    write_fields(memory, sheet, widths, 0, 4, 0);
+    bits::write(memory, 12, 12, (n - 3) as u64);
+    write_fields(memory, sheet, widths, 4, sheet.len(), 24);
+    let sum = crc::crc(&memory[..n - 4]);
+    bits::write(memory, 8 * (n - 4), 32, sum as u64);
+}
+
+// The values of the fields `from` to `to` of a section, the first of them at bit `at`, put into the same places of out.
+fn read_fields(section: &[u8], widths: &[u8], from: usize, to: usize, at: usize, out: &mut [u64])
+    requires { ⌜ (from ≤ to) × (to ≤ length (now widths)) × (to ≤ length (now out)) × (to ≤ 32768) × (at ≤ 24) ⌝ }
+    ensures { λ _. ⌜ now (out .exit) ≡ put (now (out .entry)) from (readAll (now (section .entry)) at (take (to - from) (drop from (now (widths .entry))))) ⌝ }
+{
+    let mut place = at;
+    for i in from..to {
+        let width = widths[i] as usize;
+        out[i] = bits::read(section, place, width);
+        place += width;
+    }
+}
+
+// Gives the fields `from` to `to` of a section, the first of them at bit `at`, their values.
+fn write_fields(section: &mut [u8], sheet: &[u64], widths: &[u8], from: usize, to: usize, at: usize)
+    requires { ⌜ (from ≤ to) × (to ≤ length (now widths)) × (to ≤ length (now sheet)) × (to ≤ 32768) × (at ≤ 24) ⌝ }
+    ensures { λ _. ⌜ now (section .exit) ≡ writeAll (now (section .entry)) at (fieldsBetween from to (now (widths .entry)) (now (sheet .entry))) ⌝ }
+{
+    let mut place = at;
+    for i in from..to {
+        let width = widths[i] as usize;
+        bits::write(section, place, width, sheet[i]);
+        place += width;
+    }
+}
+
+// Whether the fields `from` to `to` of a section, the first of them at bit `at`, have the values on the sheet.
+fn same_fields(
+    section: &[u8],
+    sheet: &[u64],
+    widths: &[u8],
+    from: usize,
+    to: usize,
+    at: usize,
+) -> bool
+    requires { ⌜ (from ≤ to) × (to ≤ length (now widths)) × (to ≤ length (now sheet)) × (to ≤ 32768) × (at ≤ 24) ⌝ }
+    ensures { λ r. ⌜ r ≡ same (readAll (now (section .entry)) at (take (to - from) (drop from (now (widths .entry))))) (take (to - from) (drop from (now (sheet .entry)))) ⌝ }
+{
+    let mut place = at;
+    for i in from..to {
+        let width = widths[i] as usize;
+        if bits::read(section, place, width) != sheet[i] {
+            return false;
+        }
+        place += width;
+    }
+    true
+}
+
+// Copies the bytes to the front of out.
+fn copy(bytes: &[u8], out: &mut [u8])
+    requires { ⌜ length (now bytes) ≤ length (now out) ⌝ }
+    ensures { λ _. ⌜ now (out .exit) ≡ now (bytes .entry) ++ drop (length (now (bytes .entry))) (now (out .entry)) ⌝ }
+{
+    for i in 0..bytes.len() {
+        out[i] = bytes[i];
+    }
+}
