@@ -80,8 +80,8 @@ fn is_sheet_of(sheet: &[u64], section: &[u8], widths: &mut [u8; 32768]) -> bool
 }
 
 // Puts the numbers of a sheet, section_length and CRC_32 into the first n bytes.
-fn compose(memory: &mut [u8; 4096], sheet: &[u64], widths: &[u8], n: usize)
-    requires { ⌜ (4 ≤ n) × (n ≤ 4096) × (4 ≤ length (now sheet)) × (length (now sheet) ≤ 32768) × (length (now sheet) ≤ length (now widths)) ⌝ }
+fn compose(memory: &mut [u8], sheet: &[u64], widths: &[u8], n: usize)
+    requires { ⌜ (4 ≤ n) × (n ≤ 4096) × (n ≤ length (now memory)) × (4 ≤ length (now sheet)) × (length (now sheet) ≤ 32768) × (length (now sheet) ≤ length (now widths)) ⌝ }
     ensures { λ _. ⌜ now (memory .exit) ≡ summed n (filled (now (sheet .entry)) n (now (widths .entry)) (now (memory .entry))) ⌝ }
 {
     write_fields(memory, sheet, widths, 0, 4, 0);
