@@ -240,6 +240,8 @@ module _ (s s′ x m : List ℕ) where
 pub record Body (s : List ℕ) (j : ℕ) (t : Trace) : Type 0 where
   pub body : Trace
   pub whole : t ≡ values header (bit s) 0 ++ body
+  -- nothing is left before CRC_32
+  pub all : 8 * (length s - 4) ≤ j
   -- laid out by numbers that tell it, from its bits or from a sheet, it gives the same fields
   pub planned : (s′ x m : List ℕ) → Told s s′ x body → 11 + length body ≤ length m → planOf s′ x m ≡ advance (traceWidths body) (begun m)
 
@@ -262,6 +264,15 @@ module _ (s : List ℕ) (long : 20 ≤ length s) (j : ℕ) where
       payload-plan s s′ x m u told room j (first .mid) (second .mid) (first .left) (second .left) (second .right) parts
       (first .came) (second .came) (second .went) (omega arith) e
 
+  -- the last bytes go up to CRC_32
+  by-end : (u : Trace) (b : Bool) → Reads (cond b (bytes "sealed_byte") payload) (bind header (bit s) 0 []) (bit s) stop 104 j u → stop ≤ j
+  unfolding payload
+  by-end u true q = read-octets "sealed_byte" (bind header (bit s) 0 []) (bit s) stop 104 j u (q .reads) .all
+  by-end u false q =
+      let rows = rows-parts q in
+      let second = under-parts (under-parts (rows .1) .went) in
+      read-octets "alignment_stuffing" _ (bit s) stop (second .mid) j (second .right) (second .went .reads) .all
+
   pub body-of : (t : Trace) → read splice-info-section [] (bit s) stop 0 ≡ reached j t → Body s j t
   unfolding splice-info-section
   body-of t q =
@@ -270,5 +281,6 @@ module _ (s : List ℕ) (long : 20 ≤ length s) (j : ℕ) where
       record {
         body = top .0;
         whole = top .2;
+        all = by-end (top .0) b (arm-parts b (top .1) refl);
         planned = by-seal (top .0) b refl (arm-parts b (top .1) refl);
       }

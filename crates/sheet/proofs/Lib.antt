@@ -1,0 +1,5 @@
+pub mod Spans
+pub mod Trace
+pub mod Plans
+pub mod Back
+pub mod RoundTrip

@@ -1,11 +1,12 @@
+-- `sheet::compose` meets its contract: what each call ensures, put one into another.
+-- Assumes nothing.
+use mathlib.Core.Path.{sym}
+use native.Mathlib.Omega.{arith}
+use lib.Seq.{length-take-le}
 use borrow.Author.Needs.{needs}
+use Rattle.sheet.specs.Sheet.{filled, summed}
 use Rattle.sheet.proofs.compose.Statement.{statement}
 use Rattle.sheet.proofs.compose.Tie as tie
-use Rattle.sheet.proofs.compose.Reads as reads
-use Rattle.sheet.proofs.compose.Lts as lts
-use Rattle.bits.proofs.write.Reads as write-reads
-use Rattle.crc.proofs.crc.Reads as crc-reads
-use Rattle.sheet.proofs.write_fields.Reads as write-fields-reads
 
 write-fields-requires : tie.Need-write-fields-requires
 write-fields-requires c κs = search needs
@@ -26,7 +27,7 @@ slice-reshare-prefix-crc : tie.Need-slice-reshare-prefix-crc
 slice-reshare-prefix-crc c = search needs
 
 slice-aggregate-crc : tie.Need-slice-aggregate-crc
-slice-aggregate-crc c = ?
+slice-aggregate-crc c = sym (length-take-le _ (c .before .before .before .write-fields2 .last .0) (omega arith))
 
 crc-requires : tie.Need-crc-requires
 crc-requires c κs = search needs
@@ -47,7 +48,17 @@ same-length : tie.Need-same-length
 same-length c = search needs
 
 returns : tie.Need-returns
-returns c = ?
+unfolding filled summed
+returns c =
+    let sum = c .before .before .before .before in
+    let rest = sum .before .before .before .before in
+    let size = rest .before .before .before .before in
+    let with-crc = c .before .before .write2 .ensures .1 in
+    let crc = sum .crc .ensures in
+    let with-rest = rest .write-fields2 .ensures in
+    let with-length = size .write .ensures .1 in
+    let with-first = size .before .before .before .before .write-fields .ensures in
+    cc
 
 pub compose-spec : {M : Type 1} → statement M
 compose-spec =

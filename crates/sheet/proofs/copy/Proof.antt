@@ -1,37 +1,62 @@
+-- `sheet::copy` meets its contract. The loop's invariant: the first i bytes are copied.
+-- Assumes nothing.
+use mathlib.Core.Path.{_≡_, refl, ap, ap₂, _∙_}
+use mathlib.Core.List.{List, _++_}
+use Prim.Native.Nat.{ℕ, suc, _+_, _-_, _≤_}
+use native.Mathlib.Omega.{arith}
+use lib.ListN.{length, getD, set, drop, length-set}
+use lib.Seq.{paste, paste-zero, paste-suc, take-length}
 use Rattle.sheet.proofs.copy.Statement.{statement}
 use Rattle.sheet.proofs.copy.Tie as tie
-use Rattle.sheet.proofs.copy.Reads as reads
-use Rattle.sheet.proofs.copy.Lts as lts
 
 abbrev Inv-loop : tie.InvT-loop
-Inv-loop bytes out₀ i₀ i-end out i = ?
+Inv-loop bytes out₀ i₀ i-end out i =
+    (i ≤ length bytes) × (length out ≡ length out₀) × (out ≡ paste out₀ 0 bytes i)
 
 abbrev μ-loop : tie.MeasureT-loop
-μ-loop bytes out₀ i₀ i-end out i = ?
+μ-loop bytes out₀ i₀ i-end out i = length bytes - i
 
 loop-holds : tie.Need-loop-holds Inv-loop μ-loop
-loop-holds c = ?
+loop-holds c = (omega arith, refl, paste-zero (c .args .out .now) 0 (c .args .bytes .now))
 
 shared-slice-read-out : tie.Need-shared-slice-read-out Inv-loop μ-loop
-shared-slice-read-out c = ?
+shared-slice-read-out c = omega arith
 
 slice-write-out : tie.Need-slice-write-out Inv-loop μ-loop
-slice-write-out c = ?
+slice-write-out c = omega arith
 
 add-i : tie.Need-add-i Inv-loop μ-loop
-add-i c = ?
+add-i c = omega arith
 
 loop-less : tie.Need-loop-less Inv-loop μ-loop
-loop-less c = ?
+loop-less c = omega arith
 
 loop-again : tie.Need-loop-again Inv-loop μ-loop
-loop-again c = ?
+loop-again c =
+    let loop = c .before .before .loop in
+    let a = c .before .before .before .args in
+    let one : suc (loop .i) ≡ loop .i + 1 = omega arith in
+    let here : loop .i ≡ 0 + loop .i = omega arith in
+    let b : ℕ = getD (a .bytes .now) (loop .i) 0 in (
+      omega arith,
+      length-set (loop .out) (loop .i) b ∙ loop .inv .1,
+      ap₂ (λ (m : List ℕ) (k : ℕ). set m k b) (loop .inv .2) here
+          ∙ paste-suc (a .out .now) 0 (a .bytes .now) (loop .i) 0 (omega arith) (omega arith)
+          ∙ ap (paste (a .out .now) 0 (a .bytes .now)) one,
+    )
 
 same-length : tie.Need-same-length Inv-loop μ-loop
-same-length c = ?
+same-length c = c .before .loop .inv .1
 
 returns : tie.Need-returns Inv-loop μ-loop
-returns c = ?
+returns c =
+    let loop = c .before .loop in
+    let a = c .before .before .args in
+    let all : loop .i ≡ length (a .bytes .now) = omega arith in
+    let from : 0 + length (a .bytes .now) ≡ length (a .bytes .now) = omega arith in
+    loop .inv .2
+    ∙ ap (paste (a .out .now) 0 (a .bytes .now)) all
+    ∙ ap₂ (λ (p : List ℕ) (k : ℕ). p ++ drop k (a .out .now)) (take-length (a .bytes .now)) from
 
 pub copy-spec : {M : Type 1} → statement M
 copy-spec =
