@@ -1,9 +1,9 @@
 //! The bench: each question is put to both programs, and their answers and the whole of the lent
 //! memory must be equal; each method hands back the answer that they share.
 
-use super::lent::Lent;
+use super::lent::{Cell, Lent};
 use super::random::{seed, Random};
-use super::report::{pasted_text, same_answer, same_memory, AcceptAnswer, CrcAnswer, TextAnswer};
+use super::report::{pasted_text, same_answer, same_memory, AcceptAnswer, CountAnswer, CrcAnswer};
 use super::tally::Tally;
 use crate::proved;
 use second::hex::to_hex;
@@ -59,13 +59,13 @@ impl Bench {
 
     /// The proved function gives the answer of the second program, writes it at the front of the
     /// lent output and leaves everything else as it was.
-    fn same_written(
+    pub(super) fn same_written<I: Cell, O: Cell>(
         &mut self,
         function: &str,
-        input: &[u8],
+        input: &[I],
         room: usize,
-        answer: &Result<Vec<u8>, u8>,
-        proved: fn(&mut [u8], &mut [u8]) -> u64,
+        answer: &Result<Vec<O>, u8>,
+        proved: fn(&mut [I], &mut [O]) -> u64,
         paste: impl Fn() -> String,
     ) {
         let before = Lent::holding(&mut self.random, input);
@@ -75,8 +75,8 @@ impl Bench {
         if let Ok(written) = answer {
             by_second.part()[..written.len()].copy_from_slice(written);
         }
-        let second = TextAnswer::of(answer);
-        let proved = TextAnswer(proved(after.part(), by_proved.part()));
+        let second = CountAnswer::of(answer);
+        let proved = CountAnswer(proved(after.part(), by_proved.part()));
         same_answer(function, &second, &proved, &paste);
         same_memory(function, second, "output", &by_second, &by_proved, &paste);
         same_memory(function, second, "input", &before, &after, &paste);

@@ -1,7 +1,7 @@
 //! How a difference between the two programs is told: the seed, the function, both sides, and
 //! the input as a command that can be pasted into a shell.
 
-use super::lent::Lent;
+use super::lent::{Cell, Lent};
 use super::random::seed;
 use crate::proved::REFUSED;
 use second::hex::to_hex;
@@ -21,12 +21,12 @@ pub fn same_answer<T: PartialEq + Display>(
 }
 
 /// Ends the test with a report where the lent memory is not equal after equal answers.
-pub fn same_memory(
+pub fn same_memory<T: Cell>(
     function: &str,
     answer: impl Display,
     memory: &str,
-    second: &Lent,
-    proved: &Lent,
+    second: &Lent<T>,
+    proved: &Lent<T>,
     paste: impl Fn() -> String,
 ) {
     if second != proved {
@@ -49,20 +49,20 @@ fn differ(
     )
 }
 
-/// An answer of the text functions: a count, or 2^63 and the number of a refusal.
+/// An answer of the text and sheet functions: a count, or 2^63 and the number of a refusal.
 #[derive(Clone, Copy, PartialEq, Eq)]
-pub struct TextAnswer(pub u64);
+pub struct CountAnswer(pub u64);
 
-impl TextAnswer {
-    pub fn of(answer: &Result<Vec<u8>, u8>) -> TextAnswer {
+impl CountAnswer {
+    pub fn of<T>(answer: &Result<Vec<T>, u8>) -> CountAnswer {
         match answer {
-            Ok(written) => TextAnswer(written.len() as u64),
-            Err(refused) => TextAnswer(REFUSED + u64::from(*refused)),
+            Ok(written) => CountAnswer(written.len() as u64),
+            Err(refused) => CountAnswer(REFUSED + u64::from(*refused)),
         }
     }
 }
 
-impl Display for TextAnswer {
+impl Display for CountAnswer {
     fn fmt(&self, to: &mut Formatter) -> fmt::Result {
         match self.0.checked_sub(REFUSED).map(u8::try_from) {
             None => write!(to, "{} written", self.0),

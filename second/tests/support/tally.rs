@@ -1,10 +1,11 @@
-//! How often each answer to the question of acceptance was given: 0 for accepted, 1 to 10 the rows.
+//! How often each answer was given: 0 for accepted, otherwise the number of the refusal.
 
 use second::refusal;
+use std::ops::RangeInclusive;
 
 #[derive(Default)]
 pub struct Tally {
-    counts: [u64; 11],
+    counts: [u64; 18],
 }
 
 impl Tally {
@@ -12,13 +13,19 @@ impl Tally {
         self.counts[usize::from(row)] += 1;
     }
 
-    /// Prints the counts, and ends the test where an answer was given less often than that.
-    pub fn reached(&self, least: u64) {
-        for (row, count) in (0..).zip(self.counts) {
+    /// How often this answer was given.
+    pub fn of(&self, row: u8) -> u64 {
+        self.counts[usize::from(row)]
+    }
+
+    /// Prints the counts of these answers, and ends the test where one was given less often than
+    /// that.
+    pub fn reached(&self, rows: RangeInclusive<u8>, least: u64) {
+        for row in rows.clone() {
             let name = refusal::name(row).unwrap_or("accepted");
-            println!("{row:2} {name:10} {count:8}");
+            println!("{row:2} {name:10} {:8}", self.of(row));
         }
-        let rare = self.counts.iter().position(|count| *count < least);
+        let rare = rows.clone().find(|row| self.of(*row) < least);
         assert_eq!(rare, None, "this row was reached less than {least} times");
     }
 }

@@ -31,5 +31,5 @@ fn sections_are_accepted_and_refused_alike() {
     cuts::of_long_sections(&mut bench);
     lengths::of_short_sections(&mut bench);
     lengths::of_long_sections(&mut bench);
-    bench.tally.reached(OFTEN);
+    bench.tally.reached(0..=10, OFTEN);
 }
