@@ -1,8 +1,7 @@
 //! Built sections, which both programs accept, and insides of random bytes, which mostly are not.
 
 use crate::support::built::{
-    any_section, grown, sealed, section_with_length, with_length_and_crc, Built, Command,
-    Descriptor, Size, Writer, LONGEST,
+    any_section, filled_section, grown, sealed, with_length_and_crc, Built, Size, LONGEST,
 };
 use crate::support::Bench;
 use second::refusal::SIZE;
@@ -28,7 +27,8 @@ pub fn long(bench: &mut Bench) {
         longest(bench, &built);
         let built = any_section(&mut bench.random, Size::Short);
         longest(bench, &built);
-        filled_with_descriptors(bench);
+        let built = filled_section(&mut bench.random);
+        accepted(bench, &built);
     }
     let built = sealed(&mut bench.random, LONGEST - 17);
     longest(bench, &built);
@@ -41,28 +41,6 @@ fn longest(bench: &mut Bench, built: &Built) {
         let more = bench.random.bytes(missing + more);
         assert_eq!(bench.accept(&grown(&built.bytes, &more)), row);
     }
-}
-
-/// The descriptor loop reaches to the CRC of a section of 4,096 bytes.
-fn filled_with_descriptors(bench: &mut Bench) {
-    let random = &mut bench.random;
-    let command = Command::any(random, Size::Short);
-    let mut room = LONGEST - 20 - command.part.count();
-    let mut descriptors = Vec::new();
-    while room > 300 {
-        let descriptor = Descriptor::any(random, Size::Long);
-        room -= descriptor.count();
-        descriptors.push(descriptor);
-    }
-    // Two more fill the room exactly.
-    for count in [room / 2, room - room / 2] {
-        let mut body = Writer::default();
-        body.bytes(&random.bytes(count - 6));
-        descriptors.push(Descriptor::whole(0xF0, 7, body));
-    }
-    let built = section_with_length(random, command, false, descriptors, &[]);
-    assert_eq!(built.bytes.len(), LONGEST);
-    accepted(bench, &built);
 }
 
 /// A right header, and behind it random bytes among which small ones are many.

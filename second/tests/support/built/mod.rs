@@ -90,6 +90,27 @@ pub fn longest_section(random: &mut Random) -> Built {
     built
 }
 
+/// A section of 4,096 bytes whose descriptors reach to the CRC.
+pub fn filled_section(random: &mut Random) -> Built {
+    let command = Command::any(random, Size::Short);
+    let mut room = LONGEST - AROUND - 1 - command.part.count() - 2;
+    let mut descriptors = Vec::new();
+    while room > 300 {
+        let descriptor = Descriptor::any(random, Size::Long);
+        room -= descriptor.count();
+        descriptors.push(descriptor);
+    }
+    // Two more fill the room exactly.
+    for count in [room / 2, room - room / 2] {
+        let mut body = Writer::default();
+        body.bytes(&random.bytes(count - 6));
+        descriptors.push(Descriptor::whole(0xF0, 7, body));
+    }
+    let built = section_with_length(random, command, false, descriptors, &[]);
+    assert_eq!(built.bytes.len(), LONGEST);
+    built
+}
+
 /// A section of this command, these descriptors and this stuffing; a command that ends by itself
 /// has its length left open once in three times.
 pub fn section(
