@@ -4,13 +4,17 @@
 #[path = "support/built/mod.rs"]
 mod built;
 #[allow(dead_code)]
+#[path = "support/fields.rs"]
+mod fields;
+#[allow(dead_code)]
 #[path = "support/random.rs"]
 mod random;
 
 use built::{any_section, middling_section, with_crc, Size};
+use fields::widths;
 use random::{seed, Random};
 use second::refusal::SHEET;
-use second::section::{accept, Item};
+use second::section::accept;
 use second::sheet::{section_of, sheet_of};
 
 fn random() -> Random {
@@ -37,20 +41,6 @@ fn back_and_there(sheet: &[u64]) -> bool {
             false
         }
     }
-}
-
-/// The width in bits of every number on the section's sheet.
-fn widths(section: &[u8]) -> Vec<usize> {
-    let mut widths = Vec::new();
-    for item in accept(section).unwrap().items() {
-        match item {
-            Item::Number("section_length" | "CRC_32", _, _) => {}
-            Item::Number(_, width, _) => widths.push(width),
-            Item::Bytes(_, bytes) => widths.extend(bytes.iter().map(|_| 8)),
-            Item::Open(_) | Item::Close => {}
-        }
-    }
-    widths
 }
 
 #[test]
