@@ -5,6 +5,7 @@ mod crc;
 mod fields;
 mod published;
 mod section_edges;
+mod sheet;
 mod text_edges;
 mod text_random;
 mod units;

@@ -17,6 +17,18 @@ extern "C" {
         out: *mut u8,
         out_len: usize,
     ) -> u64;
+    fn timpanimist_section_to_sheet(
+        section: *const u8,
+        section_len: usize,
+        out: *mut u64,
+        out_len: usize,
+    ) -> u64;
+    fn timpanimist_sheet_to_section(
+        sheet: *const u64,
+        sheet_len: usize,
+        out: *mut u8,
+        out_len: usize,
+    ) -> u64;
     fn timpanimist_ticks_to_millis(ticks: u64) -> u64;
     fn timpanimist_clock_sum(a: u64, b: u64) -> u64;
     fn timpanimist_field_read(bytes: *const u8, len: usize, at: usize, width: usize) -> u64;
@@ -52,6 +64,16 @@ pub fn text_to_section(text: &mut [u8], out: &mut [u8]) -> u64 {
 pub fn section_to_text(section: &mut [u8], out: &mut [u8]) -> u64 {
     let (from, to) = (section.as_mut_ptr(), out.as_mut_ptr());
     unsafe { timpanimist_section_to_text(from, section.len(), to, out.len()) }
+}
+
+pub fn section_to_sheet(section: &mut [u8], out: &mut [u64]) -> u64 {
+    let (from, to) = (section.as_mut_ptr(), out.as_mut_ptr());
+    unsafe { timpanimist_section_to_sheet(from, section.len(), to, out.len()) }
+}
+
+pub fn sheet_to_section(sheet: &mut [u64], out: &mut [u8]) -> u64 {
+    let (from, to) = (sheet.as_mut_ptr(), out.as_mut_ptr());
+    unsafe { timpanimist_sheet_to_section(from, sheet.len(), to, out.len()) }
 }
 
 pub fn ticks_to_millis(ticks: u64) -> u64 {

@@ -13,6 +13,10 @@ pub struct Bench {
     pub random: Random,
     /// How often each answer to the question of acceptance was given.
     pub tally: Tally,
+    /// The same for sections that are asked for their sheets.
+    pub to_sheet: Tally,
+    /// The same for sheets that are asked for their sections.
+    pub to_section: Tally,
 }
 
 impl Bench {
@@ -22,6 +26,8 @@ impl Bench {
         Bench {
             random: Random::new(seed()),
             tally: Tally::default(),
+            to_sheet: Tally::default(),
+            to_section: Tally::default(),
         }
     }
 

@@ -106,3 +106,13 @@ pub fn pasted_text(text: &[u8], room: usize) -> String {
         format!("second to-section-hex '{}' {room}", to_hex(text))
     }
 }
+
+/// The question that reads a section into a sheet; the room is told behind it.
+pub fn pasted_section(section: &[u8], room: usize) -> String {
+    format!("second sheet '{}' # room {room}", to_hex(section))
+}
+
+/// The question that writes a sheet as a section; the room is told behind it.
+pub fn pasted_sheet(sheet: &[u64], room: usize) -> String {
+    format!("second unsheet {} # room {room}", Cell::shown(sheet))
+}

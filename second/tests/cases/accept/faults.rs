@@ -21,7 +21,7 @@ fn has(faults: u16, row: u8) -> bool {
 }
 
 /// The section with the faults whose bits are set, bit n for row n.
-fn faulty(bench: &mut Bench, faults: u16) -> Vec<u8> {
+pub fn faulty(bench: &mut Bench, faults: u16) -> Vec<u8> {
     let mut section = plain(bench);
     if has(faults, TABLE) {
         section[0] ^= 1 << bench.random.within(0..=7);

@@ -4,7 +4,7 @@
 mod bytes;
 mod cuts;
 mod edges;
-mod faults;
+pub mod faults;
 mod lengths;
 mod lists;
 mod published;
