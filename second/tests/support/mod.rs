@@ -11,5 +11,5 @@ mod sheets;
 mod tally;
 
 pub use bench::Bench;
-pub use fields::widths;
+pub use fields::{fields, widths};
 pub use random::Random;

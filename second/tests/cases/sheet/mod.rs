@@ -1,12 +1,22 @@
 //! Field sheets, there and back: sections asked for their sheets, sheets asked for their sections,
 //! good ones and damaged ones. Each question is put in rooms of every kind (`support/sheets.rs`).
+//! A run puts some three million of them to the proved library; each test says what it covers.
 
+mod lists;
+mod longest;
+mod numbers;
+mod places;
 mod published;
+mod random;
 mod refused;
 mod sections;
+mod too_long;
 
-use crate::support::Bench;
+use crate::support::{Bench, Random};
 use second::refusal::SHEET;
+
+/// The bytes of a section that are no command, descriptors or stuffing.
+const FRAME: usize = 13 + 1 + 2 + 4;
 
 /// The sheet of a section that is accepted, and from the sheet that section again.
 fn there_and_back(bench: &mut Bench, section: &[u8]) -> Vec<u64> {
@@ -45,4 +55,24 @@ fn back(bench: &mut Bench, sheet: &[u64]) -> bool {
             false
         }
     }
+}
+
+/// Prints how many sheets of a kind were accepted and refused, and ends the test where either
+/// were fewer than that.
+fn often(bench: &Bench, kind: &str, accepted: u64, refused: u64) {
+    let counts = (bench.to_section.of(0), bench.to_section.of(SHEET));
+    println!("{kind}: {} accepted, {} refused", counts.0, counts.1);
+    assert!(counts.0 >= accepted, "{kind}: too few were accepted");
+    assert!(counts.1 >= refused, "{kind}: too few were refused");
+}
+
+/// A header, sap_type 3 and all else 0.
+fn header(encrypted_packet: u64, splice_command_length: u64) -> Vec<u64> {
+    let stated = splice_command_length;
+    vec![252, 0, 0, 3, 0, encrypted_packet, 0, 0, 0, 0, stated]
+}
+
+/// The numbers of a byte string.
+fn bytes(random: &mut Random, count: usize) -> Vec<u64> {
+    random.bytes(count).into_iter().map(u64::from).collect()
 }
