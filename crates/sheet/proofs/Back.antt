@@ -70,8 +70,8 @@ write-spans m k (x ∷ t) a b h =
     let same : length out ≡ length m = length-all m′ (k + w) (fieldsOf t) ∙ long in
     let inside = narrow m k w (b .1) ∙ le-leb (k + w) (8 * length m) (omega arith) in (
       sym (field-in out k w (within-length out m k w same ∙ inside))
-      ∙ all-elsewhere m′ (k + w) (fieldsOf t) k w (omega arith)
-      ∙ write-read m k w (x .1) (can-write m k w (x .1) inside (a .0)),
+          ∙ all-elsewhere m′ (k + w) (fieldsOf t) k w (omega arith)
+          ∙ write-read m k w (x .1) (can-write m k w (x .1) inside (a .0)),
       write-spans m′ (k + w) t (a .1) (b .2) (omega (arith, long)),
     )
 

@@ -1,5 +1,6 @@
 pub mod Spans
 pub mod Trace
 pub mod Plans
+pub mod Rows
 pub mod Back
 pub mod RoundTrip

@@ -8,7 +8,7 @@ use Prim.Native.Nat.{ℕ, zero, suc, _+_, _-_, _*_, _/_, _^_, _≤_, _<_}
 use native.Mathlib.Nat.{add-zero}
 use native.Mathlib.Omega.{arith}
 use lib.ListN.{length, getD, set, take, drop, length-append, length-set, take-append-drop}
-use lib.Seq.{take-suc, take-set-le, drop-set-lt, drop-cons, getD-set-same, take-append-seam}
+use lib.Seq.{take-suc, take-set-le, drop-set-lt, drop-cons, getD-set-same, take-append-seam, length-take-le}
 use borrow.Author.Tests.{eq-eqb, ne-eqb, lt-ltb, le-leb}
 use Rattle.bits.specs.Bits.{bit, num, within, fieldOf, readAll}
 use Rattle.bits.proofs.Num.{Bits, num-lt}
@@ -16,12 +16,15 @@ use Rattle.bits.proofs.Bytes.{bit-lt}
 use Rattle.bits.proofs.Within.{narrow, field-in}
 use Rattle.grammar.specs.Meaning.{widthOf, values}
 use Rattle.grammar.specs.Traces.{Trace, rowsOf, size, numbers, spans}
-use Rattle.layout.specs.Layout.{held, source, Plan, total, put, advance, headerWidths, begun, left, planOf}
+use Rattle.layout.specs.declared.Place.{Place}
+use Rattle.section.specs.declared.Verdict.the-variants.{Accepted}
+use Rattle.section.specs.Accept.{acceptOf}
+use Rattle.layout.specs.Layout.{plan, held, source, Plan, total, put, advance, headerWidths, begun, left, planOf}
 use Rattle.layout.proofs.Follows.{traceWidths, length-widths, total-size, put-append, Tells}
 use Rattle.layout.proofs.Planned.{Told}
 use Rattle.layout.proofs.Shape.{Thin}
 use Rattle.sheet.specs.Sheet.{sheetOf}
-use Rattle.sheet.proofs.Trace.{Whole, length-numbers, after, first, last, body, sheet-numbers, first-spans, last-spans, first-thin, last-thin, body-spans, body-thin, body-size, last-size, sheet-length, body-length}
+use Rattle.sheet.proofs.Trace.{Whole, whole, length-numbers, after, first, last, body, sheet-numbers, first-spans, last-spans, first-thin, last-thin, body-spans, body-thin, body-size, last-size, sheet-length, body-length}
 
 -- ---- lists
 
@@ -84,9 +87,9 @@ module _ (s s′ x : List ℕ) (some : 0 < length x) where
   tells-numbers pre k i [] e n a = tt
   tells-numbers pre k i (y ∷ t) e n a = (
     on-sheet k i (widthOf (y .0)) (y .1) (ap₂ (λ (l : List ℕ) (j : ℕ). getD l j 0) e n ∙ at-seam pre (y .1) (numbers t))
-    (subst (λ (v : ℕ). v < 2 ^ widthOf (y .0)) (a .0) (num-lt (bit s) (bit-lt s) k (widthOf (y .0)))),
+        (subst (λ (v : ℕ). v < 2 ^ widthOf (y .0)) (a .0) (num-lt (bit s) (bit-lt s) k (widthOf (y .0)))),
     tells-numbers (pre ++ (y .1 ∷ [])) (k + widthOf (y .0)) (i + 1) t (e ∙ sym (append-assoc pre (y .1 ∷ []) (numbers t)))
-    (omega (arith, n, length-append pre (y .1 ∷ []))) (a .1),
+        (omega (arith, n, length-append pre (y .1 ∷ []))) (a .1),
   )
     where
       at-seam : (l : List ℕ) (v : ℕ) (r : List ℕ) → getD (l ++ (v ∷ r)) (length l) 0 ≡ v
@@ -181,3 +184,48 @@ module _ (s : List ℕ) (w : Whole s) where
         (ap₂ (λ (a b : List ℕ). readAll s 0 a ++ readAll s 24 b) widths-first widths-last
         ∙ ap₂ _++_ (read-trace s 0 (first s) (first-spans s w) (first-thin s w) (omega arith))
         (read-trace s 24 (last s (body s w)) (last-spans s w) (last-thin s w) (omega (arith, last-size s w))))
+
+-- ---- what the code's plan of an accepted section is
+
+pub record Laid (s : List ℕ) (p : Place) (ws : List ℕ) : Type 0 where
+  pub number : p .number ≡ length (sheetOf s)
+  pub enough : 11 ≤ p .number
+  pub few : p .number ≤ 32768
+  pub reads : sheetOf s ≡ readAll s 0 (take 4 ws) ++ readAll s 24 (take (p .number - 4) (drop 4 ws))
+
+pub laid-out : (s m : List ℕ) {p : Place} {ws : List ℕ} → acceptOf s ≡ Accepted → length m ≡ 32768 → plan p ws ≡ planOf s [] m → Laid s p ws
+laid-out s m {p} {ws} a long e =
+    let w : Whole s = whole s a in
+    let same : plan p ws ≡ planned s w m long = e ∙ from-bits s w m long in
+    let count : p .number ≡ length (sheetOf s) = ap (λ (π : Plan). π .number) same ∙ plan-number s w m long in
+    let memory : ws ≡ planned s w m long .widths = ap (λ (π : Plan). π .widths) same in
+    record {
+      number = count;
+      enough = omega (arith, count, sheet-length s w);
+      few = omega (arith, count, sheet-length s w, body-length s w, w .rows .fits);
+      reads =
+          reads-sheet s w m long
+          ∙ sym (ap₂ (λ (l : List ℕ) (n : ℕ). readAll s 0 (take 4 l) ++ readAll s 24 (take (n - 4) (drop 4 l))) memory count);
+    }
+
+-- ---- numbers put into lent memory
+
+length-read : (s : List ℕ) (k : ℕ) (ws : List ℕ) → length (readAll s k ws) ≡ length ws
+unfolding readAll
+length-read s k [] = refl
+length-read s k (w ∷ ws) = ap suc (length-read s (k + w) ws)
+
+-- the fields before section_length and those after it, put into the same places, are the sheet in front of the memory
+pub sheet-put : (s : List ℕ) {p : Place} {ws : List ℕ} (out : List ℕ) → 4 ≤ length ws → Laid s p ws → p .number ≤ length out
+    → put (put out 0 (readAll s 0 (take 4 ws))) 4 (readAll s 24 (take (p .number - 4) (drop 4 ws))) ≡ sheetOf s ++ drop (length (sheetOf s)) out
+sheet-put s {p} {ws} out enough l room =
+    let a : List ℕ = readAll s 0 (take 4 ws) in
+    let b : List ℕ = readAll s 24 (take (p .number - 4) (drop 4 ws)) in
+    let four : length a ≡ 4 = length-read s 0 (take 4 ws) ∙ length-take-le 4 ws enough in
+    let place : 0 + length a ≡ 4 = omega (arith, four) in
+    let all : length (a ++ b) ≡ length (sheetOf s) = ap length (sym (l .reads)) in
+    let start : 0 + length (a ++ b) ≡ length (sheetOf s) = omega (arith, all) in
+    ap (λ (k : ℕ). put (put out 0 a) k b) (sym place)
+    ∙ sym (put-append out 0 a b)
+    ∙ put-between out 0 (a ++ b) (omega (arith, all, l .number))
+    ∙ ap₂ (λ (l : List ℕ) (k : ℕ). l ++ drop k out) (sym (l .reads)) start

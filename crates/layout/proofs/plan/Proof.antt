@@ -68,8 +68,8 @@ returns c =
     let value = c .before .before .before .before .before .before .before .before .value in
     let a = c .before .before .before .before .before .before .before .before .before .before .before .args in
     let header = group .ensures .0 ∙ headed (a .widths .now) (omega arith) in
-    sealed (a .section .now) (a .sheet .now) (a .widths .now) (value .ensures .0) (if1 .taken)
-    (ended (a .section .now) (a .sheet .now) (groups .ensures .0) (left .ensures _) header)
+    (sealed (a .section .now) (a .sheet .now) (a .widths .now) (value .ensures .0) (if1 .taken)
+    (ended (a .section .now) (a .sheet .now) (groups .ensures .0) (left .ensures _) header), search needs)
 
 opening-requires : tie.Need-opening-requires
 opening-requires c κs = search needs
@@ -87,6 +87,10 @@ groups-requires-2 c κs = search needs
 long : (c : tie.After-group) → length (c .before .before .before .before .before .before .args .widths .now) ≡ 32768
 long c = omega arith
 
+-- and its length after the tables
+long-after : (c : tie.After-opening) → length (c .opening .last .1 .1 .0) ≡ 32768
+long-after c = omega (arith, long (c .before .before .before))
+
 returns-2 : tie.Need-returns-2
 returns-2 c =
     let groups2 = c .groups2 in
@@ -98,8 +102,8 @@ returns-2 c =
     let a = c .before .before .before .before .before .before .before .before .before .before .before .before .before .args in
     let header = group .ensures .0 ∙ headed (a .widths .now) (long (c .before .before .before .before .before .before .before)) in
     let loop = sym (opening .ensures .0 (("splice_command_length", source (a .section .now) (a .sheet .now) 92 10 12) ∷ []) 0 refl .lays) in
-    unsealed (a .section .now) (a .sheet .now) (a .widths .now) (value .ensures .0) (if1 .left)
-    (ended (a .section .now) (a .sheet .now) (groups2 .ensures .0) (left2 .ensures _) (loop ∙ ap (walk Layout.opening _ _ 0) header))
+    (unsealed (a .section .now) (a .sheet .now) (a .widths .now) (value .ensures .0) (if1 .left)
+    (ended (a .section .now) (a .sheet .now) (groups2 .ensures .0) (left2 .ensures _) (loop ∙ ap (walk Layout.opening _ _ 0) header)), omega (arith, long-after (c .before .before .before .before)))
 
 pub plan-spec : {M : Type 1} → statement M
 plan-spec =

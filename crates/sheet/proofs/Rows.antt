@@ -1,0 +1,119 @@
+-- What the two ways answer, row by row, and what lent memory then holds.
+-- Assumes nothing.
+use mathlib.Core.Path.{_≡_, refl, sym, ap, ap₂, _∙_}
+use mathlib.Core.Bool.{Bool, true, false, cond, not, _&&_}
+use mathlib.Core.List.{List, [], _∷_, _++_}
+use Prim.Native.Nat.{ℕ, zero, suc, _≤_, _<_}
+use native.Mathlib.Omega.{arith}
+use lib.ListN.{length, take, drop, replicate}
+use lib.Dec.{leb, ltb, eqb}
+use borrow.Author.Tests.{le-leb, leb-true, lt-ltb, le-ltb, eq-eqb, eqb-true}
+use Rattle.bits.proofs.Cases.{is-false, and-left, and-right}
+use Rattle.units.specs.declared.refusals.Refusal.{Refusal}
+use Rattle.units.specs.declared.refusals.Refusal.the-variants.{Room, Sheet}
+use Rattle.units.specs.declared.refusals.Written.{Written}
+use Rattle.units.specs.declared.refusals.Written.the-variants.{Count, Refused}
+use Rattle.units.specs.Answers.{answer, memory}
+use Rattle.section.specs.declared.Verdict.{Verdict}
+use Rattle.section.specs.declared.Verdict.the-variants.{Accepted}
+use Rattle.section.specs.Accept.{acceptRow, verdict, acceptOf}
+use Rattle.section.proofs.Accepted.{accepted-row}
+use Rattle.sheet.specs.Sheet.{sheetOf, orElse, sheetRow, toSheet, toSheetInto, planFor, lengthFor, fitting, filled, summed, sectionOf, isAccepted, isSheetOf, sectionRow, toSection, toSectionInto}
+
+-- ---- section to sheet
+
+-- the verdict that refuses is that of a row
+refused-row : (out : List ℕ) (r : Refusal) (row b n : ℕ) (l : List ℕ) → verdict row ≡ Verdict.Refused r
+    → (Refused r ≡ answer (orElse row b) n) × (out ≡ memory (orElse row b) l out)
+unfolding verdict
+refused-row out r zero b n l e = let z : _≡_ {A = ℕ} 0 1 = cc in absurd (omega arith)
+refused-row out r (suc row) b n l e = (ap Refused cc, refl)
+
+module _ (s out : List ℕ) where
+  -- the answer for a row
+  to-sheet : (row : ℕ) → sheetRow s (length out) ≡ row
+      → (answer row (length (sheetOf s)) ≡ toSheet s out) × (memory row (sheetOf s) out ≡ toSheetInto s out)
+  unfolding toSheet toSheetInto
+  to-sheet row e = (ap (λ (n : ℕ). answer n (length (sheetOf s))) (sym e), ap (λ (n : ℕ). memory n (sheetOf s) out) (sym e))
+
+  -- a refused section
+  pub not-accepted : (r : Refusal) → acceptOf s ≡ Verdict.Refused r → (Refused r ≡ toSheet s out) × (out ≡ toSheetInto s out)
+  unfolding toSheet toSheetInto sheetRow acceptOf
+  not-accepted r e = refused-row out r (acceptRow s) _ (length (sheetOf s)) (sheetOf s) e
+
+  -- an accepted one, with too little room and with enough
+  room-row : acceptOf s ≡ Accepted → (b : Bool) → ltb (length out) (length (sheetOf s)) ≡ b → sheetRow s (length out) ≡ cond b 11 0
+  unfolding sheetRow
+  room-row a b e = ap₂ (λ (row : ℕ) (t : Bool). orElse row (cond t 11 0)) (accepted-row s a) e
+
+  pub no-room : acceptOf s ≡ Accepted → length out < length (sheetOf s) → (Refused Room ≡ toSheet s out) × (out ≡ toSheetInto s out)
+  no-room a h = to-sheet 11 (room-row a true (lt-ltb _ _ h))
+
+  pub sheet-written : acceptOf s ≡ Accepted → length (sheetOf s) ≤ length out
+      → (Count (length (sheetOf s)) ≡ toSheet s out) × (sheetOf s ++ drop (length (sheetOf s)) out ≡ toSheetInto s out)
+  sheet-written a h = to-sheet 0 (room-row a false (le-ltb _ _ h))
+
+-- ---- sheet to section
+
+-- no bytes are no section
+nothing : (x : List ℕ) → isSheetOf x [] ≡ false
+unfolding isSheetOf acceptOf acceptRow verdict isAccepted
+nothing x = refl
+
+-- numbers that do not fit make no section
+unfit : (x : List ℕ) → fitting x ≡ false → isSheetOf x (sectionOf x) ≡ false
+unfolding sectionOf
+unfit x e =
+    ap (λ (b : Bool). isSheetOf x (cond b (take (lengthFor x) (summed (lengthFor x) (filled x (lengthFor x) (planFor x .widths) (replicate 4096 0)))) [])) e
+    ∙ nothing x
+
+module _ (x out : List ℕ) where
+  -- the row after SHEET
+  abbrev pub roomRow : ℕ
+  roomRow = cond (ltb (length out) (length (sectionOf x))) 11 0
+
+  -- the answer for a row
+  to-section : (row : ℕ) → sectionRow x (length out) ≡ row
+      → (answer row (length (sectionOf x)) ≡ toSection x out) × (memory row (sectionOf x) out ≡ toSectionInto x out)
+  unfolding toSection toSectionInto
+  to-section row e = (ap (λ (n : ℕ). answer n (length (sectionOf x))) (sym e), ap (λ (n : ℕ). memory n (sectionOf x) out) (sym e))
+
+  -- not a sheet
+  pub no-sheet : isSheetOf x (sectionOf x) ≡ false → (Refused Sheet ≡ toSection x out) × (out ≡ toSectionInto x out)
+  unfolding sectionRow
+  no-sheet e = to-section 15 (ap (λ (t : Bool). cond (not t) 15 roomRow) e)
+
+  -- a sheet, with too little room and with enough
+  pub no-room-for : isSheetOf x (sectionOf x) ≡ true → length out < length (sectionOf x) → (Refused Room ≡ toSection x out) × (out ≡ toSectionInto x out)
+  unfolding sectionRow
+  no-room-for e h = to-section 11 (ap₂ (λ (t u : Bool). cond (not t) 15 (cond u 11 0)) e (lt-ltb _ _ h))
+
+  pub section-written : isSheetOf x (sectionOf x) ≡ true → length (sectionOf x) ≤ length out
+      → (Count (length (sectionOf x)) ≡ toSection x out) × (sectionOf x ++ drop (length (sectionOf x)) out ≡ toSectionInto x out)
+  unfolding sectionRow
+  section-written e h = to-section 0 (ap₂ (λ (t u : Bool). cond (not t) 15 (cond u 11 0)) e (le-ltb _ _ h))
+
+  -- too few numbers, too many, too many bits, or another count than that of the fields
+  pub no-fit : (11 ≤ length x → length x ≤ 32768 → planFor x .at ≤ 32736 → planFor x .number ≡ length x → ⊥)
+      → (Refused Sheet ≡ toSection x out) × (out ≡ toSectionInto x out)
+  unfolding fitting
+  no-fit h = no-sheet (unfit x (is-false (fitting x) none))
+    where
+      none : fitting x ≡ true → ⊥
+      none e =
+          let rest = and-right (leb 11 (length x)) _ e in
+          let more = and-right (leb (length x) 32768) _ rest in
+          h (leb-true _ _ (and-left (leb 11 (length x)) (leb (length x) 32768 && (leb (planFor x .at) 32736 && eqb (planFor x .number) (length x))) e))
+          (leb-true _ _ (and-left (leb (length x) 32768) (leb (planFor x .at) 32736 && eqb (planFor x .number) (length x)) rest))
+          (leb-true _ _ (and-left (leb (planFor x .at) 32736) (eqb (planFor x .number) (length x)) more))
+          (eqb-true _ _ (and-right (leb (planFor x .at) 32736) _ more))
+
+-- what numbers that fit make
+pub fit-made : (x : List ℕ) (n : ℕ) → 11 ≤ length x → length x ≤ 32768 → planFor x .at ≤ 32736 → planFor x .number ≡ length x → n ≡ lengthFor x
+    → take n (summed n (filled x n (planFor x .widths) (replicate 4096 0))) ≡ sectionOf x
+unfolding sectionOf fitting
+fit-made x n a b c d e =
+    let z : List ℕ = replicate 4096 0 in
+    let there : fitting x ≡ true = rw (le-leb 11 (length x) a, le-leb (length x) 32768 b, le-leb (planFor x .at) 32736 c, eq-eqb (planFor x .number) (length x) d) in
+    ap (λ (k : ℕ). take k (summed k (filled x k (planFor x .widths) z))) e
+    ∙ sym (ap (λ (t : Bool). cond t (take (lengthFor x) (summed (lengthFor x) (filled x (lengthFor x) (planFor x .widths) z))) []) there)
