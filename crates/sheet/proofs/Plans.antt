@@ -210,7 +210,7 @@ laid-out s m {p} {ws} a long e =
 
 -- ---- numbers put into lent memory
 
-length-read : (s : List ℕ) (k : ℕ) (ws : List ℕ) → length (readAll s k ws) ≡ length ws
+pub length-read : (s : List ℕ) (k : ℕ) (ws : List ℕ) → length (readAll s k ws) ≡ length ws
 unfolding readAll
 length-read s k [] = refl
 length-read s k (w ∷ ws) = ap suc (length-read s (k + w) ws)

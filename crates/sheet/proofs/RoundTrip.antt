@@ -8,8 +8,8 @@ use mathlib.Core.Logic.{⊎-elim}
 use Prim.Native.Nat.{ℕ, zero, suc, _-_, _*_, _≤_}
 use native.Mathlib.Omega.{arith}
 use lib.ListN.{length, take, drop, replicate}
-use lib.Dec.{eqb, ltb}
-use borrow.Author.Tests.{eq-eqb, eqb-true, le-ltb}
+use lib.Dec.{ltb}
+use borrow.Author.Tests.{le-ltb}
 use Rattle.bits.specs.Bits.{writtenOf, writeAll}
 use Rattle.bits.proofs.Cases.{by-cases, is-false, and-left, and-right}
 use Rattle.bits.proofs.Bytes.{AreBytes}
@@ -25,6 +25,7 @@ use Rattle.section.specs.declared.Verdict.the-variants.{Accepted}
 use Rattle.section.specs.Accept.{acceptOf}
 use Rattle.sheet.specs.Sheet.{sheetOf, fieldsBetween, fitting, lengthFor, planFor, filled, summed, sectionOf, isAccepted, same, isSheetOf, sectionRow, toSection, toSectionInto}
 use Rattle.sheet.proofs.Trace.{whole}
+use Rattle.sheet.proofs.Same.{same-refl, same-true}
 use Rattle.sheet.proofs.Back.{back, zero-bytes, all-bytes, front-bytes}
 
 -- the bytes s are an accepted section with the sheet x
@@ -34,18 +35,6 @@ pub record Has (x s : List ℕ) : Type 0 where
   pub sheet : sheetOf s ≡ x
 
 -- ---- the tests
-
-same-refl : (xs : List ℕ) → same xs xs ≡ true
-unfolding same
-same-refl [] = refl
-same-refl (x ∷ xs) = ap₂ _&&_ (eq-eqb x x refl) (same-refl xs)
-
-same-true : (xs ys : List ℕ) → same xs ys ≡ true → xs ≡ ys
-unfolding same
-same-true [] [] e = refl
-same-true [] (y ∷ ys) e = absurd (false≢true e)
-same-true (x ∷ xs) [] e = absurd (false≢true e)
-same-true (x ∷ xs) (y ∷ ys) e = ap₂ _∷_ (eqb-true x y (and-left (eqb x y) _ e)) (same-true xs ys (and-right (eqb x y) _ e))
 
 accepted-true : (v : Verdict) → isAccepted v ≡ true → v ≡ Accepted
 unfolding isAccepted

@@ -51,7 +51,7 @@ pub fn to_section(sheet: &[u64], out: &mut [u8]) -> Written
     let n = fields.at / 8 + 4;
     let mut memory = [0u8; 4096];
     compose(&mut memory, sheet, &widths, n);
-    if !is_sheet_of(sheet, &memory[..n], &mut widths) {
+    if !is_sheet_of(sheet, &memory[..n]) {
         return Written::Refused(Refusal::Sheet);
     }
     if out.len() < n {
@@ -62,21 +62,22 @@ pub fn to_section(sheet: &[u64], out: &mut [u8]) -> Written
 }
 
 // Whether the bytes are a section and have that sheet.
-fn is_sheet_of(sheet: &[u64], section: &[u8], widths: &mut [u8; 32768]) -> bool
+fn is_sheet_of(sheet: &[u64], section: &[u8]) -> bool
     ensures { λ r. ⌜ r ≡ isSheetOf (now (sheet .entry)) (now (section .entry)) ⌝ }
 {
     if let Verdict::Refused(_) = section::accept(section) {
         return false;
     }
-    let fields = layout::plan(section, &[], widths);
+    let mut widths = [0u8; 32768];
+    let fields = layout::plan(section, &[], &mut widths);
     let n = fields.number;
     if n != sheet.len() {
         return false;
     }
-    if !same_fields(section, sheet, widths, 0, 4, 0) {
+    if !same_fields(section, sheet, &widths, 0, 4, 0) {
         return false;
     }
-    same_fields(section, sheet, widths, 4, n, 24)
+    same_fields(section, sheet, &widths, 4, n, 24)
 }
 
 // Puts the numbers of a sheet, section_length and CRC_32 into the first n bytes.

@@ -67,9 +67,11 @@ returns c =
     let group = c .before .before .before .before .before .group in
     let value = c .before .before .before .before .before .before .before .before .value in
     let a = c .before .before .before .before .before .before .before .before .before .before .before .args in
-    let header = group .ensures .0 ∙ headed (a .widths .now) (omega arith) in
-    (sealed (a .section .now) (a .sheet .now) (a .widths .now) (value .ensures .0) (if1 .taken)
-    (ended (a .section .now) (a .sheet .now) (groups .ensures .0) (left .ensures _) header), search needs)
+    let header = group .ensures .0 ∙ headed (a .widths .now) (omega arith) in (
+      sealed (a .section .now) (a .sheet .now) (a .widths .now) (value .ensures .0) (if1 .taken)
+          (ended (a .section .now) (a .sheet .now) (groups .ensures .0) (left .ensures _) header),
+      search needs,
+    )
 
 opening-requires : tie.Need-opening-requires
 opening-requires c κs = search needs
@@ -101,9 +103,11 @@ returns-2 c =
     let value = c .before .before .before .before .before .before .before .before .before .before .value in
     let a = c .before .before .before .before .before .before .before .before .before .before .before .before .before .args in
     let header = group .ensures .0 ∙ headed (a .widths .now) (long (c .before .before .before .before .before .before .before)) in
-    let loop = sym (opening .ensures .0 (("splice_command_length", source (a .section .now) (a .sheet .now) 92 10 12) ∷ []) 0 refl .lays) in
-    (unsealed (a .section .now) (a .sheet .now) (a .widths .now) (value .ensures .0) (if1 .left)
-    (ended (a .section .now) (a .sheet .now) (groups2 .ensures .0) (left2 .ensures _) (loop ∙ ap (walk Layout.opening _ _ 0) header)), omega (arith, long-after (c .before .before .before .before)))
+    let loop = sym (opening .ensures .0 (("splice_command_length", source (a .section .now) (a .sheet .now) 92 10 12) ∷ []) 0 refl .lays) in (
+      unsealed (a .section .now) (a .sheet .now) (a .widths .now) (value .ensures .0) (if1 .left)
+          (ended (a .section .now) (a .sheet .now) (groups2 .ensures .0) (left2 .ensures _) (loop ∙ ap (walk Layout.opening _ _ 0) header)),
+      omega (arith, long-after (c .before .before .before .before)),
+    )
 
 pub plan-spec : {M : Type 1} → statement M
 plan-spec =

@@ -90,9 +90,9 @@ returns-3 c =
     let written = sheet-written (a .section .now) (a .out .now) (sym (accept .ensures) ∙ enum-told .given .1) (omega (arith, laid .number, if1 .left)) in (
       ap Count (laid .number) ∙ written .0,
       read-fields2 .ensures
-      ∙ ap (λ (m : List ℕ). put m 4 (readAll (a .section .now) 24 (take (plan .result .number - 4) (drop 4 (plan .last .1 .1 .0))))) (read-fields .ensures)
-      ∙ sheet-put (a .section .now) (a .out .now) (omega (arith, plan .ensures .1)) laid (if1 .left)
-      ∙ written .1,
+          ∙ ap (λ (m : List ℕ). put m 4 (readAll (a .section .now) 24 (take (plan .result .number - 4) (drop 4 (plan .last .1 .1 .0))))) (read-fields .ensures)
+          ∙ sheet-put (a .section .now) (a .out .now) (omega (arith, plan .ensures .1)) laid (if1 .left)
+          ∙ written .1,
     )
 
 pub from-section-spec : {M : Type 1} → statement M

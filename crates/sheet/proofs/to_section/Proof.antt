@@ -33,10 +33,10 @@ slice-aggregate-compose : tie.Need-slice-aggregate-compose
 slice-aggregate-compose c = search needs
 
 slice-aggregate-compose-2 : tie.Need-slice-aggregate-compose-2
-slice-aggregate-compose-2 c = ?
+slice-aggregate-compose-2 c = search needs
 
 compose-requires : tie.Need-compose-requires
-compose-requires c κs = ?
+compose-requires c κs = search needs
 
 array-share-prefix-memory : tie.Need-array-share-prefix-memory
 array-share-prefix-memory c = search needs
