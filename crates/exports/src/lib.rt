@@ -1,5 +1,5 @@
-// The functions that programs in other languages call: numbers and byte slices only. A slice passes as a pointer and
-// then a length. An answer that is a count or a refusal is one number: the count, or 2^63 plus the refusal's number.
+// The functions that programs in other languages call: numbers and slices of numbers only. A slice passes as a pointer
+// and then a length. An answer that is a count or a refusal is one number: the count, or 2^63 plus the refusal's number.
 ghost use mathlib.Core.Path.{_≡_};
 ghost use Prim.Native.Nat.{_<_, _^_};
 ghost use Rattle.bits.specs.Bits.{fieldOf, writable, writtenOf};
@@ -8,6 +8,7 @@ ghost use Rattle.crc.specs.Crc.{crc32};
 ghost use Rattle.text.specs.Text;
 ghost use Rattle.text.specs.Text.{readInto, writeInto};
 ghost use Rattle.section.specs.Accept.{acceptOf};
+ghost use Rattle.sheet.specs.Sheet.{toSheet, toSheetInto, toSection, toSectionInto};
 ghost use Rattle.exports.specs.Wire.{wire, rowNumber};
 use section::Verdict;
 use units::Ticks;
@@ -47,6 +48,22 @@ pub extern "C" fn timpanimist_accept(section: &[u8]) -> u32
         Verdict::Accepted => 0,
         Verdict::Refused(refusal) => refusal.number() as u32,
     }
+}
+
+// The numbers of a section's field sheet, written to the front of out.
+#[no_mangle]
+pub extern "C" fn timpanimist_section_to_sheet(section: &[u8], out: &mut [u64]) -> u64
+    ensures { λ r. ⌜ (r ≡ wire (toSheet (now (section .entry)) (now (out .entry)))) × (now (out .exit) ≡ toSheetInto (now (section .entry)) (now (out .entry))) ⌝ }
+{
+    number(sheet::from_section(section, out))
+}
+
+// The bytes of the section that has the field sheet, written to the front of out.
+#[no_mangle]
+pub extern "C" fn timpanimist_sheet_to_section(sheet: &[u64], out: &mut [u8]) -> u64
+    ensures { λ r. ⌜ (r ≡ wire (toSection (now (sheet .entry)) (now (out .entry)))) × (now (out .exit) ≡ toSectionInto (now (sheet .entry)) (now (out .entry))) ⌝ }
+{
+    number(sheet::to_section(sheet, out))
 }
 
 // The whole milliseconds in t ticks of the 90 kHz clock.
