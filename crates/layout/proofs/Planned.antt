@@ -11,7 +11,7 @@ use lib.ListN as ListN
 use lib.ListN.{length, drop, length-append}
 use lib.Dec.{leb, ltb, eqb}
 use lib.Text.{eqt}
-use borrow.Author.Tests.{leb-true}
+use borrow.Author.Tests.{leb-true, le-leb}
 use Rattle.bits.specs.Bits.{bit, num}
 use Rattle.bits.proofs.Cases.{by-cases}
 use Rattle.grammar.specs.Syntax.{Item, Prog, field, is, done, fields, branch, under}
@@ -117,6 +117,14 @@ pub record Told (s s′ x : List ℕ) (u : Trace) : Type 0 where
   pub told : Tells (source s′ x) 104 11 u
   pub over : (n : ℕ) (π : Plan) → π .at + 8 * n ≡ 8 * (ListN.length s - 4) → π .number + n ≡ 11 + ListN.length u → left s′ x π ≡ n
 
+-- after the header's fields, where there is room for them
+abbrev pub start : List ℕ → Plan
+start m = record { at = 104; number = 11; widths = put m 0 headerWidths }
+
+begun-start : (m : List ℕ) → 11 ≤ length m → begun m ≡ start m
+unfolding begun advance
+begun-start m h = laid-all headerWidths (record { at = 12; number = 0; widths = m }) (omega arith)
+
 module _ (s s′ x m : List ℕ) where
   abbrev end : ℕ
   end = 8 * (length s - 4)
@@ -147,14 +155,23 @@ module _ (s s′ x m : List ℕ) where
         ∙ times-eights (length w) π room
         ∙ ap (λ (ws : List ℕ). advance ws π) (sym (octets .eight))
 
-    module _ (room : 11 + length u ≤ length m) where
+    module _ (room : 11 + length u ≤ length m) (short : length m ≤ 32768) where
+      -- all of it, by whether it is sealed
+      abbrev whole : Bool → Plan
+      whole b = rest s′ x (cond b (start m) (walk opening (("splice_command_length", v 92 10 12) ∷ []) v 0 (start m)))
+
+      opens : (b : Bool) → eqb (num (bit s) 32 1) 1 ≡ b → planOf s′ x m ≡ whole b
+      unfolding planOf
+      opens b e =
+          ap (λ (t : Bool). cond t (rest s′ x (cond (eqb (v 32 5 1) 1) (begun m) (walk opening (("splice_command_length", v 92 10 12) ∷ []) v 0 (begun m)))) (record { at = 0; number = 0; widths = m })) (le-leb (length m) 32768 short)
+          ∙ ap (λ (π : Plan). rest s′ x (cond (eqb (v 32 5 1) 1) π (walk opening (("splice_command_length", v 92 10 12) ∷ []) v 0 π))) (begun-start m (omega arith))
+          ∙ ap whole (ap (λ (n : ℕ). eqb n 1) (told .sealed) ∙ e)
+
       sealed-plan : (j : ℕ) → Reads (bytes "sealed_byte") known (bit s) end 104 j u → 104 ≤ end → eqb (num (bit s) 32 1) 1 ≡ true
-          → planOf s′ x m ≡ advance (traceWidths u) (begun m)
-      unfolding planOf begun
+          → planOf s′ x m ≡ advance (traceWidths u) (start m)
       sealed-plan j q inside e =
-          ap (λ (b : Bool). rest s′ x (cond b (begun m) (walk opening (("splice_command_length", v 92 10 12) ∷ []) v 0 (begun m))))
-          (ap (λ (n : ℕ). eqb n 1) (told .sealed) ∙ e)
-          ∙ last-bytes "sealed_byte" known 104 j u (begun m) q inside refl refl (omega (arith, length-put m 0 headerWidths))
+          opens true e
+          ∙ last-bytes "sealed_byte" known 104 j u (start m) q inside refl refl (omega (arith, length-put m 0 headerWidths))
 
       -- the parts of an unsealed section after its header: type, command, loop, stuffing
       abbrev typed : Env
@@ -179,19 +196,19 @@ module _ (s s′ x m : List ℕ) where
 
       -- the type, and then the command's table and the loop's
       opened : (m : List ℕ) → v 104 11 8 ≡ num (bit s) 104 8 → v 92 10 12 ≡ num (bit s) 92 12
-          → walk opening (("splice_command_length", v 92 10 12) ∷ []) v 0 (begun m)
-          ≡ walk descriptor-loop two v 0 (walk sized-command two v 0 (laid (8 ∷ []) (begun m)))
-      unfolding opening walk begun
+          → walk opening (("splice_command_length", v 92 10 12) ∷ []) v 0 (start m)
+          ≡ walk descriptor-loop two v 0 (walk sized-command two v 0 (laid (8 ∷ []) (start m)))
+      unfolding opening walk
       opened m e h =
           ap₂ (λ (a b : ℕ).
           let env : Env = ("splice_command_type", a) ∷ ("splice_command_length", b) ∷ [] in
-          walk descriptor-loop env v 0 (walk sized-command env v 0 (laid (8 ∷ []) (begun m)))) e h
+          walk descriptor-loop env v 0 (walk sized-command env v 0 (laid (8 ∷ []) (start m)))) e h
 
       module _ (j k i : ℕ) (command loop stuffing : Trace) (parts : u ≡ type ++ (command ++ (loop ++ stuffing)))
           (q : Reads sized-command typed (bit s) end 112 k command) (r : Reads descriptor-loop typed (bit s) end k i loop)
           (l : Reads (bytes "alignment_stuffing") typed (bit s) end i j stuffing) (inside : 112 ≤ end) where
-        payload-plan : eqb (num (bit s) 32 1) 1 ≡ false → planOf s′ x m ≡ advance (traceWidths u) (begun m)
-        unfolding planOf begun values advance rowsOf
+        payload-plan : eqb (num (bit s) 32 1) 1 ≡ false → planOf s′ x m ≡ advance (traceWidths u) (start m)
+        unfolding values advance rowsOf
         payload-plan e =
             let whole : Tells v 104 11 (type ++ (command ++ (loop ++ stuffing))) = subst (Tells v 104 11) parts (told .told) in
             let t1 = tells-parts v 104 11 type (command ++ (loop ++ stuffing)) whole in
@@ -199,10 +216,10 @@ module _ (s s′ x m : List ℕ) where
             let t3 = tells-parts v (112 + size command) (12 + length command) loop stuffing (t2 .1) in
             let count : length u ≡ 1 + (length command + (length loop + length stuffing)) =
             ap length parts ∙ omega (arith, length-append command (loop ++ stuffing), length-append loop stuffing) in
-            let σ1 : Plan = advance (8 ∷ []) (begun m) in
+            let σ1 : Plan = advance (8 ∷ []) (start m) in
             let σ2 : Plan = advance (traceWidths command) σ1 in
             let σ3 : Plan = advance (traceWidths loop) σ2 in
-            let m1 : length (σ1 .widths) ≡ length m = length-put (begun m .widths) 11 (8 ∷ []) ∙ length-put m 0 headerWidths in
+            let m1 : length (σ1 .widths) ≡ length m = length-put (start m .widths) 11 (8 ∷ []) ∙ length-put m 0 headerWidths in
             let m2 : length (σ2 .widths) ≡ length m = length-put (σ1 .widths) 12 (traceWidths command) ∙ m1 in
             let m3 : length (σ3 .widths) ≡ length m = length-put (σ2 .widths) (σ2 .number) (traceWidths loop) ∙ m2 in
             let k-far : k ≡ 112 + size command = covers sized-command typed (bit s) end 112 k command (q .reads) in
@@ -215,22 +232,21 @@ module _ (s s′ x m : List ℕ) where
             let n3 : σ3 .number ≡ 12 + length command + length loop = omega (arith, length-widths loop, n2) in
             let told2 : Tells v k (σ2 .number) loop =
             subst (λ (n : ℕ). Tells v k n loop) (sym n2) (subst (λ (p : ℕ). Tells v p (12 + length command) loop) (sym k-far) (t3 .0)) in
-            let first : laid (8 ∷ []) (begun m) ≡ σ1 = laid-all (8 ∷ []) (begun m) (omega (arith, length-put m 0 headerWidths, count)) in
+            let first : laid (8 ∷ []) (start m) ≡ σ1 = laid-all (8 ∷ []) (start m) (omega (arith, length-put m 0 headerWidths, count)) in
             let second : walk sized-command two v 0 σ1 ≡ σ2 =
             after-π sized-command two 112 k command σ1 (seen sized-command 112 k command sized-seen q) sized-endless refl (t2 .0) (omega (arith, m1, count)) in
             let third : walk descriptor-loop two v 0 σ2 ≡ σ3 =
             after-π descriptor-loop two k i loop σ2 (seen descriptor-loop k i loop loop-seen r) loop-endless at2 told2 (omega (arith, m2, n2, count)) in
             let fourth : rest s′ x σ3 ≡ advance (traceWidths stuffing) σ3 =
             last-bytes "alignment_stuffing" typed i j stuffing σ3 l (i-in .1) at3 (omega (arith, n3, count)) (omega (arith, n3, m3, count)) in
-            ap (λ (b : Bool). rest s′ x (cond b (begun m) (walk opening (("splice_command_length", v 92 10 12) ∷ []) v 0 (begun m))))
-            (ap (λ (n : ℕ). eqb n 1) (told .sealed) ∙ e)
+            opens false e
             ∙ ap (rest s′ x) (opened m (t1 .0 .0) (told .length) ∙ ap (λ (π : Plan). walk descriptor-loop two v 0 (walk sized-command two v 0 π)) first
             ∙ ap (walk descriptor-loop two v 0) second ∙ third)
             ∙ fourth
             ∙ sym (advance-append (traceWidths loop) (traceWidths stuffing) σ2)
             ∙ sym (advance-append (traceWidths command) (traceWidths loop ++ traceWidths stuffing) σ1)
-            ∙ sym (advance-append (8 ∷ []) (traceWidths command ++ (traceWidths loop ++ traceWidths stuffing)) (begun m))
-            ∙ ap (λ (ws : List ℕ). advance ws (begun m))
+            ∙ sym (advance-append (8 ∷ []) (traceWidths command ++ (traceWidths loop ++ traceWidths stuffing)) (start m))
+            ∙ ap (λ (ws : List ℕ). advance ws (start m))
             (ap (λ (l : List ℕ). 8 ∷ l) (ap (λ (l : List ℕ). traceWidths command ++ l) (sym (widths-append loop stuffing)) ∙ sym (widths-append command (loop ++ stuffing)))
             ∙ ap traceWidths (sym parts))
 
@@ -243,7 +259,7 @@ pub record Body (s : List ℕ) (j : ℕ) (t : Trace) : Type 0 where
   -- nothing is left before CRC_32
   pub all : 8 * (length s - 4) ≤ j
   -- laid out by numbers that tell it, from its bits or from a sheet, it gives the same fields
-  pub planned : (s′ x m : List ℕ) → Told s s′ x body → 11 + length body ≤ length m → planOf s′ x m ≡ advance (traceWidths body) (begun m)
+  pub planned : (s′ x m : List ℕ) → Told s s′ x body → 11 + length body ≤ length m → length m ≤ 32768 → planOf s′ x m ≡ advance (traceWidths body) (start m)
 
 module _ (s : List ℕ) (long : 20 ≤ length s) (j : ℕ) where
   abbrev stop : ℕ
@@ -252,16 +268,16 @@ module _ (s : List ℕ) (long : 20 ≤ length s) (j : ℕ) where
   -- sealed, or not
   by-seal : (u : Trace) (b : Bool) → eqb (num (bit s) 32 1) 1 ≡ b
       → Reads (cond b (bytes "sealed_byte") payload) (bind header (bit s) 0 []) (bit s) stop 104 j u
-      → (s′ x m : List ℕ) → Told s s′ x u → 11 + length u ≤ length m → planOf s′ x m ≡ advance (traceWidths u) (begun m)
+      → (s′ x m : List ℕ) → Told s s′ x u → 11 + length u ≤ length m → length m ≤ 32768 → planOf s′ x m ≡ advance (traceWidths u) (start m)
   unfolding payload
-  by-seal u true e q s′ x m told room = sealed-plan s s′ x m u told room j q (omega arith) e
-  by-seal u false e q s′ x m told room =
+  by-seal u true e q s′ x m told room short = sealed-plan s s′ x m u told room short j q (omega arith) e
+  by-seal u false e q s′ x m told room short =
       let rows = rows-parts q in
       let first = under-parts (rows .1) in
       let second = under-parts (first .went) in
       let parts : u ≡ values (field 8 "splice_command_type" ∷ []) (bit s) 104 ++ (first .left ++ (second .left ++ second .right)) =
       rows .2 ∙ ap (λ (w : Trace). values (field 8 "splice_command_type" ∷ []) (bit s) 104 ++ w) (first .joined ∙ ap (λ (w : Trace). first .left ++ w) (second .joined)) in
-      payload-plan s s′ x m u told room j (first .mid) (second .mid) (first .left) (second .left) (second .right) parts
+      payload-plan s s′ x m u told room short j (first .mid) (second .mid) (first .left) (second .left) (second .right) parts
       (first .came) (second .came) (second .went) (omega arith) e
 
   -- the last bytes go up to CRC_32

@@ -93,12 +93,13 @@ walk (under n a p) env v end π = walk p env v end (walk a env v end π)
 
 -- ---- a section
 
--- Table 5 up to splice_command_length, but for section_length: 11 fields in 104 bits
+-- Table 5 up to splice_command_length, but for section_length: 11 fields in 92 bits
 abbrev pub headerWidths : List ℕ
 headerWidths = 8 ∷ 1 ∷ 1 ∷ 2 ∷ 8 ∷ 1 ∷ 6 ∷ 33 ∷ 8 ∷ 12 ∷ 12 ∷ []
 
+-- section_length has 12 bits, which are counted first
 unfoldable pub begun : List ℕ → Plan
-begun m = record { at = 104; number = 11; widths = put m 0 headerWidths }
+begun m = laid headerWidths (record { at = 12; number = 0; widths = m })
 
 -- Table 5 from splice_command_type up to the end of the loop
 unfoldable pub opening : Prog
@@ -111,11 +112,13 @@ left s x π = cond (eqb (length x) 0) (length s - 4 - π .at / 8) (length x - π
 unfoldable pub rest : List ℕ → List ℕ → Plan → Plan
 rest s x π = timesOn (left s x π) (laid (8 ∷ [])) π
 
--- all fields of the section s, or of the section of the sheet x
+-- all fields of the section s, or of the section of the sheet x; memory longer than any section needs is not used
 unfoldable pub planOf : List ℕ → List ℕ → List ℕ → Plan
 planOf s x m =
     let v = source s x in
-    rest s x (cond (eqb (v 32 5 1) 1) (begun m) (walk opening (("splice_command_length", v 92 10 12) ∷ []) v 0 (begun m)))
+    cond (leb (length m) 32768)
+    (rest s x (cond (eqb (v 32 5 1) 1) (begun m) (walk opening (("splice_command_length", v 92 10 12) ∷ []) v 0 (begun m))))
+    (record { at = 0; number = 0; widths = m })
 
 -- ---- for private functions
 

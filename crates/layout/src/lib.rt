@@ -530,10 +530,14 @@ fn left(section: &[u8], sheet: &[u64], p: Place) -> u64
 }
 
 // The widths of all fields, section_length left out: of the section or, where there is a sheet, of the section that has it.
-// Gives the bit after the last field, and how many they are.
-pub fn plan(section: &[u8], sheet: &[u64], widths: &mut [u8; 32768]) -> Place
-    ensures { λ r. ⌜ (Layout.plan r (now (widths .exit)) ≡ planOf (now (section .entry)) (now (sheet .entry)) (now (widths .entry))) × (length (now (widths .exit)) ≡ 32768) ⌝ }
+// Gives the bit after the last field, and how many they are. Memory longer than 32,768, more than any section needs, is not
+// used.
+pub fn plan(section: &[u8], sheet: &[u64], widths: &mut [u8]) -> Place
+    ensures { λ r. ⌜ Layout.plan r (now (widths .exit)) ≡ planOf (now (section .entry)) (now (sheet .entry)) (now (widths .entry)) ⌝ }
 {
+    if 32768 < widths.len() {
+        return Place { at: 0, number: 0 };
+    }
     let encrypted_packet = value(section, sheet, 32, 5, 1);
     // the 12 bits of section_length are counted first
     let start = Place { at: 12, number: 0 };

@@ -11,7 +11,7 @@ use lib.Seq.{take-all, take-length, length-take-le, getD-take}
 use mathlib.Core.Logic.{⊎-elim}
 use Rattle.bits.proofs.Cases.{le-or-lt}
 use lib.Dec.{leb, eqb}
-use borrow.Author.Tests.{le-leb, eq-eqb}
+use borrow.Author.Tests.{le-leb, lt-leb, eq-eqb}
 use Rattle.bits.specs.Bits.{bit, num, fieldOf, writable, writtenOf, writeAll}
 use Rattle.bits.proofs.Num.{num-lt}
 use Rattle.bits.proofs.Bytes.{AreBytes, bit-lt, bits-ext}
@@ -29,7 +29,7 @@ use Rattle.layout.specs.Layout.{Plan, total, planOf}
 use Rattle.layout.proofs.Follows.{traceWidths}
 use Rattle.layout.proofs.Shape.{Thin, thin-append}
 use Rattle.section.specs.Accept.{the}
-use Rattle.sheet.specs.Sheet.{sheetOf, sectionTrace, planFor, lengthFor, fitting, pairs, fieldsBetween, filled, summed, sectionOf}
+use Rattle.sheet.specs.Sheet.{sheetOf, sectionTrace, roomFor, planFor, lengthFor, fitting, pairs, fieldsBetween, filled, summed, sectionOf}
 use Rattle.sheet.proofs.Trace.{Whole, length-numbers, first, sized, last, body, parts, sheet-numbers, sheet-length, body-length}
 use Rattle.sheet.proofs.Plans.{planned, from-sheet, plan-at, plan-number, widths-first, widths-last}
 
@@ -118,6 +118,14 @@ zero-bytes zero i = omega arith
 zero-bytes (suc n) zero = omega arith
 zero-bytes (suc n) (suc i) = zero-bytes n i
 
+-- what is cleared is enough, and no more than the most
+pub room-enough : (n few many : ℕ) → n ≤ many → n ≤ roomFor n few many
+room-enough n few many h =
+    ⊎-elim (λ l. rw (le-leb n few l) l) (λ l. rw (lt-leb n few l) h) (le-or-lt n few)
+
+pub room-most : (n few many : ℕ) → few ≤ many → roomFor n few many ≤ many
+room-most n few many h = ⊎-elim (λ l. rw (le-leb n few l) h) (λ l. rw (lt-leb n few l) (omega arith)) (le-or-lt n few)
+
 -- ---- the section
 
 module _ (s : List ℕ) (bytes : AreBytes s) (w : Whole s) where
@@ -131,18 +139,28 @@ module _ (s : List ℕ) (bytes : AreBytes s) (w : Whole s) where
   abbrev zeros : ℕ → List ℕ
   zeros n = replicate n 0
 
-  long-zeros : length (zeros 32768) ≡ 32768
-  long-zeros = length-replicate {A = ℕ} 32768 0
+  -- as much as is cleared for so many numbers
+  abbrev m : List ℕ
+  m = zeros (roomFor (length x) 256 32768)
+
+  few : length x ≤ 32768
+  few = omega (arith, sheet-length s w, body-length s w, w .rows .fits)
+
+  room : 11 + length (body s w) ≤ length m
+  room = omega (arith, length-replicate {A = ℕ} (roomFor (length x) 256 32768) 0, sheet-length s w, room-enough (length x) 256 32768 few)
+
+  short : length m ≤ 32768
+  short = omega (arith, length-replicate {A = ℕ} (roomFor (length x) 256 32768) 0, room-most (length x) 256 32768 (omega arith))
 
   abbrev plan : Plan
-  plan = planned s w (zeros 32768) long-zeros
+  plan = planned s w m room short
 
   plan-for : planFor x ≡ plan
   unfolding planFor
-  plan-for = from-sheet s w (zeros 32768) long-zeros []
+  plan-for = from-sheet s w m room short []
 
   place : planFor x .at ≡ 8 * count
-  place = ap (λ (π : Plan). π .at) plan-for ∙ plan-at s w (zeros 32768) long-zeros
+  place = ap (λ (π : Plan). π .at) plan-for ∙ plan-at s w m room short
 
   length-for : lengthFor x ≡ length s
   unfolding lengthFor
@@ -152,10 +170,9 @@ module _ (s : List ℕ) (bytes : AreBytes s) (w : Whole s) where
   unfolding fitting
   fits-all =
       let enough : 11 ≤ length x = omega (arith, sheet-length s w) in
-      let few : length x ≤ 32768 = omega (arith, sheet-length s w, body-length s w, w .rows .fits) in
-      let short : planFor x .at ≤ 32736 = omega (arith, place, w .rows .fits) in
-      let same : planFor x .number ≡ length x = ap (λ (π : Plan). π .number) plan-for ∙ plan-number s w (zeros 32768) long-zeros in
-      rw (le-leb 11 (length x) enough, le-leb (length x) 32768 few, le-leb (planFor x .at) 32736 short, eq-eqb (planFor x .number) (length x) same)
+      let small : planFor x .at ≤ 32736 = omega (arith, place, w .rows .fits) in
+      let same : planFor x .number ≡ length x = ap (λ (π : Plan). π .number) plan-for ∙ plan-number s w m room short in
+      rw (le-leb 11 (length x) enough, le-leb (length x) 32768 few, le-leb (planFor x .at) 32736 small, eq-eqb (planFor x .number) (length x) same)
 
   length-field : the s "section_length" ≡ num (bit s) 12 12
   unfolding the
@@ -167,9 +184,9 @@ module _ (s : List ℕ) (bytes : AreBytes s) (w : Whole s) where
   filled-trace n z e =
       let last-count : length x - 4 ≡ length (numbers (last s (body s w))) = omega (arith, sheet-length s w, length-numbers (body s w)) in
       let ws-first : take 4 (planFor x .widths) ≡ traceWidths (first s) =
-      ap (λ (π : Plan). take 4 (π .widths)) plan-for ∙ widths-first s w (zeros 32768) long-zeros in
+      ap (λ (π : Plan). take 4 (π .widths)) plan-for ∙ widths-first s w m room short in
       let ws-last : take (length x - 4) (drop 4 (planFor x .widths)) ≡ traceWidths (last s (body s w)) =
-      ap (λ (π : Plan). take (length x - 4) (drop 4 (π .widths))) plan-for ∙ widths-last s w (zeros 32768) long-zeros in
+      ap (λ (π : Plan). take (length x - 4) (drop 4 (π .widths))) plan-for ∙ widths-last s w m room short in
       let xs-first : take 4 x ≡ numbers (first s) = ap (take 4) (sheet-numbers s w) in
       let xs-last : take (length x - 4) (drop 4 x) ≡ numbers (last s (body s w)) =
       ap₂ (λ (i : ℕ) (l : List ℕ). take i (drop 4 l)) last-count (sheet-numbers s w) ∙ take-length (numbers (last s (body s w))) in
@@ -207,11 +224,10 @@ module _ (s : List ℕ) (bytes : AreBytes s) (w : Whole s) where
   size-sum = let long : 20 ≤ length s = w .rows .long in omega (arith, size-append (sectionTrace s) sum, w .covered)
 
   -- in any memory that is long enough
-  made : (n : ℕ) (z : List ℕ) → n ≡ length s → length z ≡ 4096 → AreBytes z → take n (summed n (filled x n (planFor x .widths) z)) ≡ s
+  made : (n : ℕ) (z : List ℕ) → n ≡ length s → length s ≤ length z → AreBytes z → take n (summed n (filled x n (planFor x .widths) z)) ≡ s
   unfolding summed writeAll rowsOf
   made n z e long-z hz =
       let long : 20 ≤ length s = w .rows .long in
-      let short : length s ≤ 4096 = w .rows .fits in
       let m : List ℕ = writeAll z 0 (fieldsOf (sectionTrace s)) in
       let there : filled x n (planFor x .widths) z ≡ m = filled-trace n z e in
       let front : take count m ≡ take count s =
@@ -230,5 +246,9 @@ module _ (s : List ℕ) (bytes : AreBytes s) (w : Whole s) where
   pub back : sectionOf x ≡ s
   unfolding sectionOf
   back =
-      ap (λ (b : Bool). cond b (take (lengthFor x) (summed (lengthFor x) (filled x (lengthFor x) (planFor x .widths) (zeros 4096)))) []) fits-all
-      ∙ made (lengthFor x) (zeros 4096) length-for (length-replicate {A = ℕ} 4096 0) (zero-bytes 4096)
+      let n : ℕ = lengthFor x in
+      let z : ℕ = roomFor n 256 4096 in
+      let long : length s ≤ length (zeros z) =
+      omega (arith, length-replicate {A = ℕ} z 0, length-for, room-enough n 256 4096 (omega (arith, length-for, w .rows .fits))) in
+      ap (λ (b : Bool). cond b (take n (summed n (filled x n (planFor x .widths) (zeros z)))) []) fits-all
+      ∙ made n (zeros z) length-for long (zero-bytes z)

@@ -19,9 +19,9 @@ use Rattle.grammar.specs.Traces.{Trace, rowsOf, size, numbers, spans}
 use Rattle.layout.specs.declared.Place.{Place}
 use Rattle.section.specs.declared.Verdict.the-variants.{Accepted}
 use Rattle.section.specs.Accept.{acceptOf}
-use Rattle.layout.specs.Layout.{plan, held, source, Plan, total, put, advance, headerWidths, begun, left, planOf}
+use Rattle.layout.specs.Layout.{plan, held, source, Plan, total, put, advance, headerWidths, left, planOf}
 use Rattle.layout.proofs.Follows.{traceWidths, length-widths, total-size, put-append, Tells}
-use Rattle.layout.proofs.Planned.{Told}
+use Rattle.layout.proofs.Planned.{Told, start}
 use Rattle.layout.proofs.Shape.{Thin}
 use Rattle.sheet.specs.Sheet.{sheetOf}
 use Rattle.sheet.proofs.Trace.{Whole, whole, length-numbers, after, first, last, body, sheet-numbers, first-spans, last-spans, first-thin, last-thin, body-spans, body-thin, body-size, last-size, sheet-length, body-length}
@@ -127,25 +127,22 @@ module _ (s : List ℕ) (w : Whole s) where
       }
 
   -- the plan, in memory that is long enough
-  module _ (m : List ℕ) (long : length m ≡ 32768) where
+  module _ (m : List ℕ) (room : 11 + length (body s w) ≤ length m) (short : length m ≤ 32768) where
     abbrev pub planned : Plan
-    planned = advance (traceWidths (body s w)) (begun m)
-
-    room : 11 + length (body s w) ≤ length m
-    room = omega (arith, long, body-length s w, w .rows .fits)
+    planned = advance (traceWidths (body s w)) (start m)
 
     pub from-bits : planOf s [] m ≡ planned
-    from-bits = w .fields .planned s [] m told-bits room
+    from-bits = w .fields .planned s [] m told-bits room short
 
     pub from-sheet : (s′ : List ℕ) → planOf s′ (sheetOf s) m ≡ planned
-    from-sheet s′ = w .fields .planned s′ (sheetOf s) m (told-sheet s′) room
+    from-sheet s′ = w .fields .planned s′ (sheetOf s) m (told-sheet s′) room short
 
     pub plan-at : planned .at ≡ 8 * (length s - 4)
-    unfolding advance begun
+    unfolding advance
     plan-at = omega (arith, total-size (body s w), body-size s w)
 
     pub plan-number : planned .number ≡ length (sheetOf s)
-    unfolding advance begun
+    unfolding advance
     plan-number = omega (arith, length-widths (body s w), sheet-length s w)
 
     -- the widths, and what is left of the memory
@@ -153,7 +150,7 @@ module _ (s : List ℕ) (w : Whole s) where
     over = drop (11 + length (traceWidths (body s w))) m
 
     pub plan-widths : planned .widths ≡ traceWidths (first s) ++ (traceWidths (last s (body s w)) ++ over)
-    unfolding advance begun values
+    unfolding advance values
     plan-widths =
         let ws : List ℕ = traceWidths (body s w) in
         let count : length (headerWidths ++ ws) ≡ 11 + length ws = omega arith in
@@ -187,24 +184,26 @@ module _ (s : List ℕ) (w : Whole s) where
 
 -- ---- what the code's plan of an accepted section is
 
-pub record Laid (s : List ℕ) (p : Place) (ws : List ℕ) : Type 0 where
+pub record Laid (s m : List ℕ) (p : Place) (ws : List ℕ) : Type 0 where
   pub number : p .number ≡ length (sheetOf s)
   pub enough : 11 ≤ p .number
-  pub few : p .number ≤ 32768
+  pub inside : p .number ≤ length m
   pub reads : sheetOf s ≡ readAll s 0 (take 4 ws) ++ readAll s 24 (take (p .number - 4) (drop 4 ws))
 
-pub laid-out : (s m : List ℕ) {p : Place} {ws : List ℕ} → acceptOf s ≡ Accepted → length m ≡ 32768 → plan p ws ≡ planOf s [] m → Laid s p ws
-laid-out s m {p} {ws} a long e =
+pub laid-out : (s m : List ℕ) {p : Place} {ws : List ℕ} → acceptOf s ≡ Accepted → 8 * length s ≤ length m → length m ≤ 32768
+    → plan p ws ≡ planOf s [] m → Laid s m p ws
+laid-out s m {p} {ws} a long short e =
     let w : Whole s = whole s a in
-    let same : plan p ws ≡ planned s w m long = e ∙ from-bits s w m long in
-    let count : p .number ≡ length (sheetOf s) = ap (λ (π : Plan). π .number) same ∙ plan-number s w m long in
-    let memory : ws ≡ planned s w m long .widths = ap (λ (π : Plan). π .widths) same in
+    let room : 11 + length (body s w) ≤ length m = omega (arith, long, body-length s w) in
+    let same : plan p ws ≡ planned s w m room short = e ∙ from-bits s w m room short in
+    let count : p .number ≡ length (sheetOf s) = ap (λ (π : Plan). π .number) same ∙ plan-number s w m room short in
+    let memory : ws ≡ planned s w m room short .widths = ap (λ (π : Plan). π .widths) same in
     record {
       number = count;
       enough = omega (arith, count, sheet-length s w);
-      few = omega (arith, count, sheet-length s w, body-length s w, w .rows .fits);
+      inside = omega (arith, count, sheet-length s w, room);
       reads =
-          reads-sheet s w m long
+          reads-sheet s w m room short
           ∙ sym (ap₂ (λ (l : List ℕ) (n : ℕ). readAll s 0 (take 4 l) ++ readAll s 24 (take (n - 4) (drop 4 l))) memory count);
     }
 
@@ -216,9 +215,9 @@ length-read s k [] = refl
 length-read s k (w ∷ ws) = ap suc (length-read s (k + w) ws)
 
 -- the fields before section_length and those after it, put into the same places, are the sheet in front of the memory
-pub sheet-put : (s : List ℕ) {p : Place} {ws : List ℕ} (out : List ℕ) → 4 ≤ length ws → Laid s p ws → p .number ≤ length out
+pub sheet-put : (s m : List ℕ) {p : Place} {ws : List ℕ} (out : List ℕ) → 4 ≤ length ws → Laid s m p ws → p .number ≤ length out
     → put (put out 0 (readAll s 0 (take 4 ws))) 4 (readAll s 24 (take (p .number - 4) (drop 4 ws))) ≡ sheetOf s ++ drop (length (sheetOf s)) out
-sheet-put s {p} {ws} out enough l room =
+sheet-put s m {p} {ws} out enough l room =
     let a : List ℕ = readAll s 0 (take 4 ws) in
     let b : List ℕ = readAll s 24 (take (p .number - 4) (drop 4 ws)) in
     let four : length a ≡ 4 = length-read s 0 (take 4 ws) ∙ length-take-le 4 ws enough in

@@ -23,7 +23,7 @@ use Rattle.units.specs.Answers.{answer, memory}
 use Rattle.section.specs.declared.Verdict.{Verdict}
 use Rattle.section.specs.declared.Verdict.the-variants.{Accepted}
 use Rattle.section.specs.Accept.{acceptOf}
-use Rattle.sheet.specs.Sheet.{sheetOf, fieldsBetween, fitting, lengthFor, planFor, filled, summed, sectionOf, isAccepted, same, isSheetOf, sectionRow, toSection, toSectionInto}
+use Rattle.sheet.specs.Sheet.{sheetOf, fieldsBetween, roomFor, fitting, lengthFor, planFor, filled, summed, sectionOf, isAccepted, same, isSheetOf, sectionRow, toSection, toSectionInto}
 use Rattle.sheet.proofs.Trace.{whole}
 use Rattle.sheet.proofs.Same.{same-refl, same-true}
 use Rattle.sheet.proofs.Back.{back, zero-bytes, all-bytes, front-bytes}
@@ -68,12 +68,12 @@ made-bytes x = go (fitting x)
     n = lengthFor x
 
     m : List ℕ
-    m = filled x n (planFor x .widths) (replicate 4096 0)
+    m = filled x n (planFor x .widths) (replicate (roomFor n 256 4096) 0)
 
     go : (b : Bool) → AreBytes (cond b (take n (summed n m)) [])
     go true =
         front-bytes n (summed n m)
-        (written-bytes m (8 * (n - 4)) 32 (crc32 (take (n - 4) m)) (filled-bytes x n (planFor x .widths) (replicate 4096 0) (zero-bytes 4096)))
+        (written-bytes m (8 * (n - 4)) 32 (crc32 (take (n - 4) m)) (filled-bytes x n (planFor x .widths) (replicate (roomFor n 256 4096) 0) (zero-bytes (roomFor n 256 4096))))
     go false = λ i. omega arith
 
 -- ---- there and back

@@ -18,7 +18,7 @@ use Rattle.section.specs.declared.Verdict.{Verdict}
 use Rattle.section.specs.declared.Verdict.the-variants.{Accepted}
 use Rattle.section.specs.Accept.{acceptRow, verdict, acceptOf}
 use Rattle.section.proofs.Accepted.{accepted-row}
-use Rattle.sheet.specs.Sheet.{sheetOf, orElse, sheetRow, toSheet, toSheetInto, planFor, lengthFor, fitting, filled, summed, sectionOf, isAccepted, isSheetOf, sectionRow, toSection, toSectionInto}
+use Rattle.sheet.specs.Sheet.{sheetOf, orElse, sheetRow, toSheet, toSheetInto, planFor, lengthFor, fitting, filled, summed, sectionOf, isAccepted, isSheetOf, roomFor, rowFor, Judged, sectionRow, toSection, toSectionInto}
 
 -- ---- section to sheet
 
@@ -64,7 +64,7 @@ nothing x = refl
 unfit : (x : List ℕ) → fitting x ≡ false → isSheetOf x (sectionOf x) ≡ false
 unfolding sectionOf
 unfit x e =
-    ap (λ (b : Bool). isSheetOf x (cond b (take (lengthFor x) (summed (lengthFor x) (filled x (lengthFor x) (planFor x .widths) (replicate 4096 0)))) [])) e
+    ap (λ (b : Bool). isSheetOf x (cond b (take (lengthFor x) (summed (lengthFor x) (filled x (lengthFor x) (planFor x .widths) (replicate (roomFor (lengthFor x) 256 4096) 0)))) [])) e
     ∙ nothing x
 
 module _ (x out : List ℕ) where
@@ -78,20 +78,18 @@ module _ (x out : List ℕ) where
   unfolding toSection toSectionInto
   to-section row e = (ap (λ (n : ℕ). answer n (length (sectionOf x))) (sym e), ap (λ (n : ℕ). memory n (sectionOf x) out) (sym e))
 
+  -- bytes that are those that x makes are judged as x is
+  pub judged-as : {b : List ℕ} {r : Written} {m : List ℕ} → b ≡ sectionOf x → Judged x b out r m → (r ≡ toSection x out) × (m ≡ toSectionInto x out)
+  unfolding toSection toSectionInto sectionRow
+  judged-as e j = (
+    j .answers ∙ ap (λ (l : List ℕ). answer (rowFor x l (length out)) (length l)) e,
+    j .holds ∙ ap (λ (l : List ℕ). memory (rowFor x l (length out)) l out) e,
+  )
+
   -- not a sheet
   pub no-sheet : isSheetOf x (sectionOf x) ≡ false → (Refused Sheet ≡ toSection x out) × (out ≡ toSectionInto x out)
   unfolding sectionRow
   no-sheet e = to-section 15 (ap (λ (t : Bool). cond (not t) 15 roomRow) e)
-
-  -- a sheet, with too little room and with enough
-  pub no-room-for : isSheetOf x (sectionOf x) ≡ true → length out < length (sectionOf x) → (Refused Room ≡ toSection x out) × (out ≡ toSectionInto x out)
-  unfolding sectionRow
-  no-room-for e h = to-section 11 (ap₂ (λ (t u : Bool). cond (not t) 15 (cond u 11 0)) e (lt-ltb _ _ h))
-
-  pub section-written : isSheetOf x (sectionOf x) ≡ true → length (sectionOf x) ≤ length out
-      → (Count (length (sectionOf x)) ≡ toSection x out) × (sectionOf x ++ drop (length (sectionOf x)) out ≡ toSectionInto x out)
-  unfolding sectionRow
-  section-written e h = to-section 0 (ap₂ (λ (t u : Bool). cond (not t) 15 (cond u 11 0)) e (le-ltb _ _ h))
 
   -- too few numbers, too many, too many bits, or another count than that of the fields
   pub no-fit : (11 ≤ length x → length x ≤ 32768 → planFor x .at ≤ 32736 → planFor x .number ≡ length x → ⊥)
@@ -110,10 +108,30 @@ module _ (x out : List ℕ) where
 
 -- what numbers that fit make
 pub fit-made : (x : List ℕ) (n : ℕ) → 11 ≤ length x → length x ≤ 32768 → planFor x .at ≤ 32736 → planFor x .number ≡ length x → n ≡ lengthFor x
-    → take n (summed n (filled x n (planFor x .widths) (replicate 4096 0))) ≡ sectionOf x
+    → take n (summed n (filled x n (planFor x .widths) (replicate (roomFor n 256 4096) 0))) ≡ sectionOf x
 unfolding sectionOf fitting
 fit-made x n a b c d e =
-    let z : List ℕ = replicate 4096 0 in
+    let z : ℕ → List ℕ = λ k. replicate (roomFor k 256 4096) 0 in
     let there : fitting x ≡ true = rw (le-leb 11 (length x) a, le-leb (length x) 32768 b, le-leb (planFor x .at) 32736 c, eq-eqb (planFor x .number) (length x) d) in
-    ap (λ (k : ℕ). take k (summed k (filled x k (planFor x .widths) z))) e
-    ∙ sym (ap (λ (t : Bool). cond t (take (lengthFor x) (summed (lengthFor x) (filled x (lengthFor x) (planFor x .widths) z))) []) there)
+    ap (λ (k : ℕ). take k (summed k (filled x k (planFor x .widths) (z k)))) e
+    ∙ sym (ap (λ (t : Bool). cond t (take (lengthFor x) (summed (lengthFor x) (filled x (lengthFor x) (planFor x .widths) (z (lengthFor x))))) []) there)
+
+-- ---- the judgement of bytes
+
+module _ (x s out : List ℕ) where
+  judged : (row : ℕ) → rowFor x s (length out) ≡ row → Judged x s out (answer row (length s)) (memory row s out)
+  judged row e =
+      record {
+        answers = ap (λ (n : ℕ). answer n (length s)) (sym e);
+        holds = ap (λ (n : ℕ). memory n s out) (sym e);
+      }
+
+  pub not-it : isSheetOf x s ≡ false → Judged x s out (Refused Sheet) out
+  not-it e = judged 15 (ap (λ (t : Bool). cond (not t) 15 (cond (ltb (length out) (length s)) 11 0)) e)
+
+  -- it is, with too little room and with enough
+  pub no-room-for : isSheetOf x s ≡ true → length out < length s → Judged x s out (Refused Room) out
+  no-room-for e h = judged 11 (ap₂ (λ (t u : Bool). cond (not t) 15 (cond u 11 0)) e (lt-ltb _ _ h))
+
+  pub section-written : isSheetOf x s ≡ true → length s ≤ length out → Judged x s out (Count (length s)) (s ++ drop (length s) out)
+  section-written e h = judged 0 (ap₂ (λ (t u : Bool). cond (not t) 15 (cond u 11 0)) e (le-ltb _ _ h))

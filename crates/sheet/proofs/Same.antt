@@ -59,9 +59,9 @@ module _ (x s : List ℕ) where
   pub other-count : acceptOf s ≡ Accepted → (length (sheetOf s) ≡ length x → ⊥) → isSheetOf x s ≡ false
   other-count e h = of-section e ∙ is-false (same (sheetOf s) x) (λ q. h (ap length (same-true (sheetOf s) x q)))
 
-  pub two-parts : {p : Place} {ws : List ℕ} → acceptOf s ≡ Accepted → Laid s p ws → 4 ≤ length ws → p .number ≡ length x
+  pub two-parts : (m : List ℕ) {p : Place} {ws : List ℕ} → acceptOf s ≡ Accepted → Laid s m p ws → 4 ≤ length ws → p .number ≡ length x
       → isSheetOf x s ≡ (same (readAll s 0 (take 4 ws)) (take 4 x) && same (readAll s 24 (take (p .number - 4) (drop 4 ws))) (take (p .number - 4) (drop 4 x)))
-  two-parts {p} {ws} e l long count =
+  two-parts m {p} {ws} e l long count =
       let a : List ℕ = readAll s 0 (take 4 ws) in
       let b : List ℕ = readAll s 24 (take (p .number - 4) (drop 4 ws)) in
       let all : take (p .number - 4) (drop 4 x) ≡ drop 4 x = take-all (p .number - 4) (drop 4 x) (omega (arith, length-drop 4 x, count)) in

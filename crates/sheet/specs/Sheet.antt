@@ -1,5 +1,6 @@
 -- The field sheet: every field of a section as one number, in order, and the way back.
 -- Assumes nothing.
+use mathlib.Core.Path.{_≡_}
 use Prim.Native.Nat.{ℕ, zero, suc, _+_, _-_, _*_, _/_}
 use mathlib.Core.Bool.{Bool, true, false, cond, not, _&&_}
 use mathlib.Core.List.{List, [], _∷_, _++_}
@@ -52,9 +53,13 @@ toSheetInto s out = memory (sheetRow s (length out)) (sheetOf s) out
 
 -- ---- sheet to section
 
+-- how much memory is cleared for n numbers: little where that is enough
+abbrev pub roomFor : ℕ → ℕ → ℕ → ℕ
+roomFor n few many = cond (leb n few) few many
+
 -- the fields that a section with the sheet x would have
 unfoldable pub planFor : List ℕ → Plan
-planFor x = planOf [] x (replicate 32768 0)
+planFor x = planOf [] x (replicate (roomFor (length x) 256 32768) 0)
 
 -- how many bytes it would have, those of CRC_32 among them
 unfoldable pub lengthFor : List ℕ → ℕ
@@ -85,7 +90,7 @@ summed n m = writtenOf m (8 * (n - 4)) 32 (crc32 (take (n - 4) m))
 
 -- the bytes that the numbers of a sheet make
 unfoldable pub sectionOf : List ℕ → List ℕ
-sectionOf x = cond (fitting x) (take (lengthFor x) (summed (lengthFor x) (filled x (lengthFor x) (planFor x .widths) (replicate 4096 0)))) []
+sectionOf x = cond (fitting x) (take (lengthFor x) (summed (lengthFor x) (filled x (lengthFor x) (planFor x .widths) (replicate (roomFor (lengthFor x) 256 4096) 0)))) []
 
 unfoldable pub isAccepted : Verdict → Bool
 isAccepted Accepted = true
@@ -102,9 +107,13 @@ same (x ∷ xs) (y ∷ ys) = eqb x y && same xs ys
 unfoldable pub isSheetOf : List ℕ → List ℕ → Bool
 isSheetOf x s = isAccepted (acceptOf s) && same (sheetOf s) x
 
--- SHEET, then ROOM. That the first is there exactly when x is the sheet of no section is proved
+-- SHEET, where the bytes s are not the section of the sheet x; then ROOM
+abbrev pub rowFor : List ℕ → List ℕ → ℕ → ℕ
+rowFor x s room = first ((not (isSheetOf x s), 15) ∷ (ltb room (length s), 11) ∷ [])
+
+-- of the bytes that x makes. That the row is SHEET exactly when x is the sheet of no section is proved
 unfoldable pub sectionRow : List ℕ → ℕ → ℕ
-sectionRow x room = first ((not (isSheetOf x (sectionOf x)), 15) ∷ (ltb room (length (sectionOf x)), 11) ∷ [])
+sectionRow x room = rowFor x (sectionOf x) room
 
 -- what the way from a sheet to its section answers
 unfoldable pub toSection : List ℕ → List ℕ → Written
@@ -113,3 +122,10 @@ toSection x out = answer (sectionRow x (length out)) (length (sectionOf x))
 -- what the lent memory then holds
 unfoldable pub toSectionInto : List ℕ → List ℕ → List ℕ
 toSectionInto x out = memory (sectionRow x (length out)) (sectionOf x) out
+
+-- ---- for a private function
+
+-- the answer r and the memory m that the bytes s get as what the sheet x makes
+pub record Judged (x s out : List ℕ) (r : Written) (m : List ℕ) : Type 0 where
+  pub answers : r ≡ answer (rowFor x s (length out)) (length s)
+  pub holds : m ≡ memory (rowFor x s (length out)) s out

@@ -1,11 +1,13 @@
 // The field sheet of a section, every field as one number in order, and the section of a field sheet.
 ghost use mathlib.Core.Path.{_≡_};
-ghost use Prim.Native.Nat.{_+_, _-_, _≤_};
+ghost use Prim.Native.Nat.{_+_, _-_, _*_, _≤_};
 ghost use mathlib.Core.List.{_++_};
-ghost use lib.ListN.{length, take, drop};
+ghost use lib.ListN.{length, take, drop, replicate};
+ghost use Rattle.section.specs.declared.Verdict.the-variants.{Accepted};
+ghost use Rattle.section.specs.Accept.{acceptOf};
 ghost use Rattle.bits.specs.Bits.{readAll, writeAll};
 ghost use Rattle.layout.specs.Layout.{put};
-ghost use Rattle.sheet.specs.Sheet.{toSheet, toSheetInto, fieldsBetween, filled, summed, same, isSheetOf, toSection, toSectionInto};
+ghost use Rattle.sheet.specs.Sheet.{toSheet, toSheetInto, fieldsBetween, filled, summed, same, isSheetOf, roomFor, Judged, toSection, toSectionInto};
 use section::Verdict;
 use units::Refusal;
 use units::Written;
@@ -17,15 +19,28 @@ pub fn from_section(section: &[u8], out: &mut [u64]) -> Written
     if let Verdict::Refused(refusal) = section::accept(section) {
         return Written::Refused(refusal);
     }
+    // a field has a bit at least
+    if section.len() <= 256 {
+        let mut widths = [0u8; 2048];
+        return numbers(section, &mut widths, out);
+    }
     let mut widths = [0u8; 32768];
-    let fields = layout::plan(section, &[], &mut widths);
+    numbers(section, &mut widths, out)
+}
+
+// The same of an accepted section, with memory for the widths of its fields.
+fn numbers(section: &[u8], widths: &mut [u8], out: &mut [u64]) -> Written
+    requires { ⌜ (acceptOf (now section) ≡ Accepted) × (8 * length (now section) ≤ length (now widths)) × (length (now widths) ≤ 32768) ⌝ }
+    ensures { λ r. ⌜ (r ≡ toSheet (now (section .entry)) (now (out .entry))) × (now (out .exit) ≡ toSheetInto (now (section .entry)) (now (out .entry))) ⌝ }
+{
+    let fields = layout::plan(section, &[], widths);
     let n = fields.number;
     if out.len() < n {
         return Written::Refused(Refusal::Room);
     }
     // section_length, at bit 12, is left out
-    read_fields(section, &widths, 0, 4, 0, out);
-    read_fields(section, &widths, 4, n, 24, out);
+    read_fields(section, widths, 0, 4, 0, out);
+    read_fields(section, widths, 4, n, 24, out);
     Written::Count(n)
 }
 
@@ -40,8 +55,20 @@ pub fn to_section(sheet: &[u64], out: &mut [u8]) -> Written
     if 32768 < sheet.len() {
         return Written::Refused(Refusal::Sheet);
     }
+    if sheet.len() <= 256 {
+        let mut widths = [0u8; 256];
+        return bytes(sheet, &mut widths, out);
+    }
     let mut widths = [0u8; 32768];
-    let fields = layout::plan(&[], sheet, &mut widths);
+    bytes(sheet, &mut widths, out)
+}
+
+// The same with memory for the widths of the fields.
+fn bytes(sheet: &[u64], widths: &mut [u8], out: &mut [u8]) -> Written
+    requires { ⌜ (11 ≤ length (now sheet)) × (length (now sheet) ≤ 32768) × (now widths ≡ replicate (roomFor (length (now sheet)) 256 32768) 0) ⌝ }
+    ensures { λ r. ⌜ (r ≡ toSection (now (sheet .entry)) (now (out .entry))) × (now (out .exit) ≡ toSectionInto (now (sheet .entry)) (now (out .entry))) ⌝ }
+{
+    let fields = layout::plan(&[], sheet, widths);
     if 32736 < fields.at {
         return Written::Refused(Refusal::Sheet);
     }
@@ -49,8 +76,20 @@ pub fn to_section(sheet: &[u64], out: &mut [u8]) -> Written
         return Written::Refused(Refusal::Sheet);
     }
     let n = fields.at / 8 + 4;
+    if n <= 256 {
+        let mut memory = [0u8; 256];
+        return made(sheet, widths, &mut memory, n, out);
+    }
     let mut memory = [0u8; 4096];
-    compose(&mut memory, sheet, &widths, n);
+    made(sheet, widths, &mut memory, n, out)
+}
+
+// The same of the n bytes that the numbers make with these widths.
+fn made(sheet: &[u64], widths: &[u8], memory: &mut [u8], n: usize, out: &mut [u8]) -> Written
+    requires { ⌜ (4 ≤ n) × (n ≤ 4096) × (n ≤ length (now memory)) × (4 ≤ length (now sheet)) × (length (now sheet) ≤ 32768) × (length (now sheet) ≤ length (now widths)) ⌝ }
+    ensures { λ r. ⌜ Judged (now (sheet .entry)) (take n (summed n (filled (now (sheet .entry)) n (now (widths .entry)) (now (memory .entry))))) (now (out .entry)) r (now (out .exit)) ⌝ }
+{
+    compose(memory, sheet, widths, n);
     if !is_sheet_of(sheet, &memory[..n]) {
         return Written::Refused(Refusal::Sheet);
     }
@@ -68,16 +107,28 @@ fn is_sheet_of(sheet: &[u64], section: &[u8]) -> bool
     if let Verdict::Refused(_) = section::accept(section) {
         return false;
     }
+    if section.len() <= 256 {
+        let mut widths = [0u8; 2048];
+        return same_sheet(sheet, section, &mut widths);
+    }
     let mut widths = [0u8; 32768];
-    let fields = layout::plan(section, &[], &mut widths);
+    same_sheet(sheet, section, &mut widths)
+}
+
+// The same of an accepted section, with memory for the widths of its fields.
+fn same_sheet(sheet: &[u64], section: &[u8], widths: &mut [u8]) -> bool
+    requires { ⌜ (acceptOf (now section) ≡ Accepted) × (8 * length (now section) ≤ length (now widths)) × (length (now widths) ≤ 32768) ⌝ }
+    ensures { λ r. ⌜ r ≡ isSheetOf (now (sheet .entry)) (now (section .entry)) ⌝ }
+{
+    let fields = layout::plan(section, &[], widths);
     let n = fields.number;
     if n != sheet.len() {
         return false;
     }
-    if !same_fields(section, sheet, &widths, 0, 4, 0) {
+    if !same_fields(section, sheet, widths, 0, 4, 0) {
         return false;
     }
-    same_fields(section, sheet, &widths, 4, n, 24)
+    same_fields(section, sheet, widths, 4, n, 24)
 }
 
 // Puts the numbers of a sheet, section_length and CRC_32 into the first n bytes.
