@@ -47,3 +47,6 @@ fn at<T>(list: &[T], number: u64) -> Result<&T, u8> {
 fn count<T>(list: &[T]) -> u64 {
     list.len() as u64
 }
+
+#[cfg(test)]
+mod tests;

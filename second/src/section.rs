@@ -76,4 +76,4 @@ impl Clear {
 }
 
 #[cfg(test)]
-mod tests;
+pub(crate) mod tests;
