@@ -2,6 +2,7 @@
 //! Exit status 0 for an answer, 1 for a refusal, 2 for bad usage.
 #![forbid(unsafe_code)]
 
+use second::reading::{self, Reading};
 use second::{bits, crc, hex, refusal, section, sheet, text, units};
 use std::process::ExitCode;
 
@@ -10,6 +11,18 @@ usage: second accept HEX                       whether a section is accepted, an
        second accept-text TEXT                 the same, the section given as base64 text
        second sheet HEX                        the field sheet of a section
        second unsheet N N N ..                 the section of a field sheet
+       second command HEX                      the command of a section
+       second insert-component HEX N           component N of a component insert
+       second event HEX N                      event N of a schedule
+       second event-component HEX N M          component M of event N
+       second private-byte HEX N               byte N of a private command
+       second descriptors HEX                  how many known descriptors there are
+       second descriptor HEX N                 known descriptor N
+       second dtmf-char HEX N M                character M of known descriptor N
+       second segmentation-component HEX N M   segmentation component M of known descriptor N
+       second audio-component HEX N M          audio component M of known descriptor N
+       second upid HEX N                       where the UPID of known descriptor N lies, and its bytes
+       second numbers QUESTION HEX ..          the answer to one of these eleven as a flat list
        second to-section TEXT [ROOM]           the bytes of a base64 text
        second to-section-hex HEX [ROOM]        the same, the text given as hex bytes
        second to-text HEX [ROOM]               the base64 text of a section
@@ -44,7 +57,7 @@ fn main() -> ExitCode {
     }
 }
 
-/// What answers a question: a line, or for a section a line for each of its fields.
+/// What answers a question: a line, or for a section or a typed answer a line for each field.
 fn answer(words: &[&[u8]]) -> Result<String, Failure> {
     match words {
         [b"accept", section] => accept(&bytes(section)?),
@@ -65,11 +78,58 @@ fn answer(words: &[&[u8]]) -> Result<String, Failure> {
             let written = bits::write_field(&mut data, size(at)?, size(width)?, number(value)?);
             Ok(format!("{written} {}", hex::to_hex(&data)))
         }
+        [b"numbers", typed_question @ ..] => Ok(joined(&typed(typed_question)?.numbers)),
         [] => Err(Failure::Usage("nothing is asked".to_string())),
+        _ => Ok(typed(words)?.listing),
+    }
+}
+
+/// The answer to a typed question, in both of its forms.
+struct Typed {
+    listing: String,
+    numbers: Vec<u64>,
+}
+
+/// A typed question: the section, and the numbers of what is asked for in it.
+fn typed(words: &[&[u8]]) -> Result<Typed, Failure> {
+    match words {
+        [b"command", section] => both(reading::command(&bytes(section)?)),
+        [b"insert-component", section, n] => {
+            both(reading::insert_component(&bytes(section)?, number(n)?))
+        }
+        [b"event", section, n] => both(reading::event(&bytes(section)?, number(n)?)),
+        [b"event-component", section, n, m] => {
+            let (section, n, m) = (bytes(section)?, number(n)?, number(m)?);
+            both(reading::event_component(&section, n, m))
+        }
+        [b"private-byte", section, n] => both(reading::private_byte(&bytes(section)?, number(n)?)),
+        [b"descriptors", section] => both(reading::descriptor_count(&bytes(section)?)),
+        [b"descriptor", section, n] => both(reading::descriptor(&bytes(section)?, number(n)?)),
+        [b"dtmf-char", section, n, m] => {
+            let (section, n, m) = (bytes(section)?, number(n)?, number(m)?);
+            both(reading::dtmf_char(&section, n, m))
+        }
+        [b"segmentation-component", section, n, m] => {
+            let (section, n, m) = (bytes(section)?, number(n)?, number(m)?);
+            both(reading::segmentation_component(&section, n, m))
+        }
+        [b"audio-component", section, n, m] => {
+            let (section, n, m) = (bytes(section)?, number(n)?, number(m)?);
+            both(reading::audio_component(&section, n, m))
+        }
+        [b"upid", section, n] => both(reading::upid(&bytes(section)?, number(n)?)),
         _ => Err(Failure::Usage(
             "this is not one of the questions".to_string(),
         )),
     }
+}
+
+fn both(answer: Result<impl Reading, u8>) -> Result<Typed, Failure> {
+    let answer = answer.map_err(Failure::Refusal)?;
+    Ok(Typed {
+        listing: reading::listing(&answer).trim_end().to_string(),
+        numbers: reading::numbers(&answer),
+    })
 }
 
 fn accept(bytes: &[u8]) -> Result<String, Failure> {
@@ -80,8 +140,12 @@ fn accept(bytes: &[u8]) -> Result<String, Failure> {
 
 fn sheet(bytes: &[u8]) -> Result<String, Failure> {
     let sheet = sheet::sheet_of(bytes).map_err(Failure::Refusal)?;
-    let numbers: Vec<String> = sheet.iter().map(u64::to_string).collect();
-    Ok(numbers.join(" "))
+    Ok(joined(&sheet))
+}
+
+fn joined(numbers: &[u64]) -> String {
+    let numbers: Vec<String> = numbers.iter().map(u64::to_string).collect();
+    numbers.join(" ")
 }
 
 /// The numbers may have commas behind them, as 01 prints them.

@@ -83,6 +83,88 @@ fn sheet_of_004() {
     refuses(&["sheet", &SECTION_OF_004[..108]], "R 4 SIZE");
 }
 
+/// The section that has these numbers for its sheet.
+fn section_of(sheet: &str) -> String {
+    let mut words = vec!["unsheet"];
+    words.extend(sheet.split(' '));
+    let (status, section) = said(&words);
+    assert_eq!(status, 0, "{sheet}");
+    section.trim_end().to_string()
+}
+
+/// The question has this flat list for its answer.
+fn numbers(words: &[&str], list: &str) {
+    answers(&[&["numbers"], words].concat(), list);
+}
+
+#[test]
+fn readings_of_004() {
+    let section = SECTION_OF_004;
+    answers(
+        &["command", section],
+        "command: 4 (time signal)\ntime: 2 (given)\npts_time: 3150057 (0x3010e9)",
+    );
+    answers(&["descriptors", section], "count: 1");
+    answers(
+        &["upid", section, "0"],
+        "offset: 40 (0x28)\nlength: 8\nsegmentation_upid: 0000000020fb6501",
+    );
+    let (status, listing) = said(&["descriptor", section, "0"]);
+    assert_eq!((status, listing.lines().count()), (0, 16));
+    numbers(&["command", section], "4 2 3150057");
+    numbers(&["descriptors", section], "1");
+    let list = "2 1073741883 0 1 0 1 1 3 1 18132042 8 8 52 0 0 0";
+    numbers(&["descriptor", section, "0"], list);
+    numbers(&["upid", section, "0"], "40 8 0 0 0 0 32 251 101 1");
+}
+
+#[test]
+fn readings_by_number() {
+    let insert = "252 0 0 0 0 0 0 0 0 0 13 5 9 0 0 1 0 0 0 15 1 7 0 127 2 3 4 0";
+    let insert = &section_of(insert);
+    numbers(&["command", insert], "2 9 1 1 1 1 0 2 3 4");
+    numbers(&["insert-component", insert, "0"], "7 1");
+
+    let schedule = "252 0 0 0 0 0 0 0 0 0 17 4 1 9 0 1 1 0 0 31 1 5 6 2 3 4 0";
+    let schedule = &section_of(schedule);
+    numbers(&["event", schedule, "0"], "0 9 1 1 1 0 2 3 4");
+    numbers(&["event-component", schedule, "0", "0"], "5 6");
+
+    let private = &section_of("252 0 0 0 0 0 0 0 0 0 6 255 77 1 2 0");
+    numbers(&["private-byte", private, "1"], "2");
+
+    let lists = "252 0 0 0 0 0 0 0 0 0 0 0 46 1 7 1129661769 9 1 31 49 \
+                 4 10 1129661769 1 15 255 6 7 15 1 \
+                 2 23 1129661769 1 0 0 0 0 1 31 1 5 0 6 9 1 66 16 1 1";
+    let lists = &section_of(lists);
+    numbers(&["descriptors", lists], "3");
+    numbers(&["dtmf-char", lists, "0", "0"], "49");
+    numbers(&["audio-component", lists, "1", "0"], "255 6 7 15 1");
+    numbers(&["segmentation-component", lists, "2", "0"], "5 6");
+    numbers(&["upid", lists, "2"], "58 1 66");
+}
+
+#[test]
+fn readings_that_are_refused() {
+    let section = SECTION_OF_004;
+    refuses(&["insert-component", section, "0"], "R 16 NOTHERE");
+    refuses(&["event", section, "0"], "R 16 NOTHERE");
+    refuses(&["event-component", section, "0", "0"], "R 16 NOTHERE");
+    refuses(&["private-byte", section, "0"], "R 16 NOTHERE");
+    refuses(&["descriptor", section, "1"], "R 16 NOTHERE");
+    refuses(&["dtmf-char", section, "0", "0"], "R 16 NOTHERE");
+    let component = "segmentation-component";
+    refuses(&[component, section, "0", "0"], "R 16 NOTHERE");
+    refuses(&["audio-component", section, "0", "0"], "R 16 NOTHERE");
+    refuses(&["upid", section, "18446744073709551615"], "R 16 NOTHERE");
+    refuses(&["numbers", "upid", section, "1"], "R 16 NOTHERE");
+    let sealed = &section_of("252 0 0 0 0 1 0 0 0 0 0 0 0 0 0 0 0 0");
+    refuses(&["command", sealed], "R 17 SEALED");
+    refuses(&["descriptors", sealed], "R 17 SEALED");
+    refuses(&["upid", sealed, "0"], "R 17 SEALED");
+    refuses(&["command", &section[..108]], "R 4 SIZE");
+}
+
 #[test]
 fn answers_are_single_lines() {
     answers(&["to-section", ""], "");
@@ -110,7 +192,7 @@ fn refusals_carry_number_and_name() {
 
 #[test]
 fn bad_usage_is_told_on_standard_error() {
-    let cases: [&[&str]; 15] = [
+    let cases: [&[&str]; 22] = [
         &[],
         &["sing"],
         &["accept"],
@@ -119,6 +201,13 @@ fn bad_usage_is_told_on_standard_error() {
         &["sheet"],
         &["unsheet", "252", "x"],
         &["unsheet", "18446744073709551616"],
+        &["command"],
+        &["command", "fc", "0"],
+        &["event", "fc"],
+        &["event-component", "fc", "0"],
+        &["upid", "fc", "x"],
+        &["numbers", "fc"],
+        &["numbers", "sheet", "fc"],
         &["to-section"],
         &["to-section", "AAAA", "3", "3"],
         &["to-text", "f"],

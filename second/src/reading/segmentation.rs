@@ -120,7 +120,7 @@ impl Reading for Segmentation {
         to.value("segmentation_event_id", self.segmentation_event_id);
         self.mode.list(to);
         to.optional("delivery_restrictions", restrictions, |to, it| it.list(to));
-        to.optional("segmentation_duration", duration, |to, ticks| {
+        to.optional("duration", duration, |to, ticks| {
             to.value("segmentation_duration", *ticks);
         });
         to.value("segmentation_upid_type", self.segmentation_upid_type);
