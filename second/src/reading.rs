@@ -19,7 +19,7 @@ pub use command::{command, private_byte, Command};
 pub use descriptor::{
     audio_component, descriptor, descriptor_count, dtmf_char, AudioComponent, Descriptor,
 };
-pub use entries::{listing, numbers, Entries, Entry, Reading};
+pub use entries::{entries, listing, numbers, Entries, Entry, Reading};
 pub use insert::{insert_component, Insert, InsertComponent};
 pub use mode::Mode;
 pub use schedule::{event, event_component, Event, EventComponent, EventMode, ScheduledEvent};

@@ -44,7 +44,8 @@ pub fn listing(answer: &impl Reading) -> String {
     lines.collect()
 }
 
-fn entries(answer: &impl Reading) -> Vec<Entry> {
+/// The list itself.
+pub fn entries(answer: &impl Reading) -> Vec<Entry> {
     let mut entries = Entries::default();
     answer.list(&mut entries);
     entries.list

@@ -134,11 +134,11 @@ impl Reading for EventMode {
     fn list(&self, to: &mut Entries) {
         match self {
             EventMode::Program { utc_splice_time } => {
-                to.case("mode", "program", 0);
+                to.case("event mode", "program", 0);
                 to.value("utc_splice_time", *utc_splice_time);
             }
             EventMode::Components { component_count } => {
-                to.case("mode", "components", 1);
+                to.case("event mode", "components", 1);
                 to.value("component_count", *component_count);
             }
         }

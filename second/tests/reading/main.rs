@@ -2,6 +2,7 @@
 //! Every answer is what the section's sheet tells, and says no more and no less than it should.
 
 mod bits;
+mod page;
 mod sections;
 mod sheet;
 mod upids;

@@ -7,6 +7,42 @@ use second::reading;
 use second::refusal::{NOTHERE, SEALED};
 use second::sheet::sheet_of;
 
+/// Every answer of an accepted section is what its sheet tells, or SEALED.
+pub fn same_answers(random: &mut Random, section: &[u8]) -> Option<Told> {
+    let sheet = sheet_of(section).expect("an accepted section");
+    let Some(told) = told(section.len(), &sheet) else {
+        refused(random, section, SEALED);
+        return None;
+    };
+    assert_eq!(flat(reading::command(section)), Ok(told.command.clone()));
+    same_command_lists(random, section, &told);
+    let count = told.descriptors.len() as u64;
+    assert_eq!(reading::descriptor_count(section), Ok(count));
+    same_descriptors(random, section, &told);
+    Some(told)
+}
+
+/// Every question is refused with this number, whatever is asked for.
+pub fn refused(random: &mut Random, section: &[u8], expected: u8) {
+    let n = random.number_of_any_size() >> random.within(0..=63);
+    let m = random.number_of_any_size() >> random.within(0..=63);
+    let answers = [
+        flat(reading::command(section)),
+        flat(reading::insert_component(section, n)),
+        flat(reading::event(section, n)),
+        flat(reading::event_component(section, n, m)),
+        flat(reading::private_byte(section, n)),
+        flat(reading::descriptor_count(section)),
+        flat(reading::descriptor(section, n)),
+        flat(reading::dtmf_char(section, n, m)),
+        flat(reading::segmentation_component(section, n, m)),
+        flat(reading::audio_component(section, n, m)),
+        flat(reading::upid(section, n)),
+    ];
+    let all = answers.iter().all(|answer| *answer == Err(expected));
+    assert!(all, "{expected}: {answers:?} for {n} and {m}");
+}
+
 /// Which numbers are asked for in a list of so many: all of a short one, the ends and some more of
 /// a long one; always two past it, and one far away.
 fn numbers_to_ask(random: &mut Random, count: usize) -> Vec<u64> {
@@ -27,21 +63,6 @@ fn same_lists(random: &mut Random, told: &[Vec<u64>], ask: impl Fn(u64) -> Answe
         let expected = told.get(number as usize).cloned().ok_or(NOTHERE);
         assert_eq!(ask(number), expected, "number {number}");
     }
-}
-
-/// Every answer of an accepted section is what its sheet tells, or SEALED.
-pub fn same_answers(random: &mut Random, section: &[u8]) -> Option<Told> {
-    let sheet = sheet_of(section).expect("an accepted section");
-    let Some(told) = told(section.len(), &sheet) else {
-        refused(random, section, SEALED);
-        return None;
-    };
-    assert_eq!(flat(reading::command(section)), Ok(told.command.clone()));
-    same_command_lists(random, section, &told);
-    let count = told.descriptors.len() as u64;
-    assert_eq!(reading::descriptor_count(section), Ok(count));
-    same_descriptors(random, section, &told);
-    Some(told)
 }
 
 fn same_command_lists(random: &mut Random, section: &[u8], told: &Told) {
@@ -81,25 +102,4 @@ fn same_descriptors(random: &mut Random, section: &[u8], told: &Told) {
             flat(reading::audio_component(section, n, m))
         });
     }
-}
-
-/// Every question is refused with this number, whatever is asked for.
-pub fn refused(random: &mut Random, section: &[u8], expected: u8) {
-    let n = random.number_of_any_size() >> random.within(0..=63);
-    let m = random.number_of_any_size() >> random.within(0..=63);
-    let answers = [
-        flat(reading::command(section)),
-        flat(reading::insert_component(section, n)),
-        flat(reading::event(section, n)),
-        flat(reading::event_component(section, n, m)),
-        flat(reading::private_byte(section, n)),
-        flat(reading::descriptor_count(section)),
-        flat(reading::descriptor(section, n)),
-        flat(reading::dtmf_char(section, n, m)),
-        flat(reading::segmentation_component(section, n, m)),
-        flat(reading::audio_component(section, n, m)),
-        flat(reading::upid(section, n)),
-    ];
-    let all = answers.iter().all(|answer| *answer == Err(expected));
-    assert!(all, "{expected}: {answers:?} for {n} and {m}");
 }
