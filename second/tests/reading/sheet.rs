@@ -44,7 +44,7 @@ pub fn refused(random: &mut Random, section: &[u8], expected: u8) {
 }
 
 /// Which numbers are asked for in a list of so many: all of a short one, the ends and some more of
-/// a long one; always two past it, and one far away.
+/// a long one; always two past it, one far away, and one that is right in its low bits only.
 fn numbers_to_ask(random: &mut Random, count: usize) -> Vec<u64> {
     let mut asked: Vec<usize> = (0..count).collect();
     if count > 8 {
@@ -54,6 +54,8 @@ fn numbers_to_ask(random: &mut Random, count: usize) -> Vec<u64> {
     asked.extend([count, count + 1, count + 2]);
     let mut asked: Vec<u64> = asked.into_iter().map(|number| number as u64).collect();
     asked.push(random.number_of_any_size().max(count as u64));
+    // No list has 2^12 things.
+    asked.push((1 << random.within(12..=63)) + random.within(0..=count) as u64);
     asked
 }
 
