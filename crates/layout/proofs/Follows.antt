@@ -2,16 +2,15 @@
 -- fields of the trace, if the numbers that stand there are the trace's own.
 -- Assumes nothing.
 use mathlib.Core.Path.{_≡_, refl, sym, ap, ap₂, _∙_, subst}
-use mathlib.Core.Bool.{Bool, true, false, cond, _&&_}
+use mathlib.Core.Bool.{Bool, true, false, cond}
 use mathlib.Core.List.{List, [], _∷_, _++_}
 use Prim.Native.Nat.{ℕ, zero, suc, _+_, _-_, _*_, _≤_, _<_}
-use native.Mathlib.Nat.{add-assoc, add-zero}
+use native.Mathlib.Nat.{add-zero}
 use native.Mathlib.Omega.{arith}
 use lib.ListN.{length, set, length-append, length-set}
 use lib.Dec.{leb, ltb, eqb}
-use borrow.Author.Tests.{le-leb, leb-true, leb-false, lt-leb, ltb-true, lt-ltb}
+use borrow.Author.Tests.{le-leb, ltb-true, lt-ltb}
 use Rattle.bits.specs.Bits.{num}
-use Rattle.bits.proofs.Cases.{and-left, and-right}
 use Rattle.grammar.specs.Syntax.{Item, Prog, done, stop, fields, branch, call, repeat, frame, fill, under}
 use Rattle.grammar.specs.Meaning.{Env, valueOf, widthOf, width, values, bind, bindOne, holds, Reading, broken, reached, after, then, again, sweep, exactly, numbered, read}
 use Rattle.grammar.specs.Traces.{Trace, rowsOf, size}

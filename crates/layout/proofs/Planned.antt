@@ -3,7 +3,6 @@
 use mathlib.Core.Path.{_≡_, refl, sym, ap, ap₂, _∙_, subst}
 use mathlib.Core.Bool.{Bool, true, false, cond, _||_, false≢true}
 use mathlib.Core.List.{List, [], _∷_, _++_, append-nil}
-use mathlib.Core.Logic.{⊎-elim}
 use Prim.Native.Nat.{ℕ, zero, suc, _+_, _-_, _*_, _≤_}
 use Prim.Native.String.{String}
 use native.Mathlib.Omega.{arith}
@@ -13,16 +12,14 @@ use lib.Dec.{leb, ltb, eqb}
 use lib.Text.{eqt}
 use borrow.Author.Tests.{leb-true, le-leb}
 use Rattle.bits.specs.Bits.{bit, num}
-use Rattle.bits.proofs.Cases.{by-cases}
-use Rattle.grammar.specs.Syntax.{Item, Prog, field, is, done, fields, branch, under}
+use Rattle.grammar.specs.Syntax.{Prog, field, is, done, fields, branch, under}
 use Rattle.grammar.specs.Meaning.{Env, valueOf, width, values, bind, Reading, broken, reached, then, sweep, read}
 use Rattle.grammar.specs.Tables.{header, bytes, payload, splice-info-section, sized-command, command, splice-schedule, schedule-event, schedule-times, avails, break-duration, avail-numbers, splice-insert, insert-times, insert-component, splice-time, private-command, descriptor-loop, splice-descriptor, known-descriptor, avail-descriptor, dtmf-descriptor, segmentation-descriptor, delivery, segmentation-components, segmentation-end, time-descriptor, audio-descriptor}
 use Rattle.grammar.specs.Traces.{Trace, rowsOf, size}
-use Rattle.grammar.proofs.Ends.{Gives, breaks, gives, given, when-gives, then-gives, after-gives, covers, ends-within}
-use Rattle.grammar.proofs.Readings.{Reads, Parts, rows-parts, arm-parts, under-parts}
-use Rattle.grammar.proofs.Scope.{isIn, Agree, scoped, same-read}
-use Rattle.grammar.proofs.Traces.{size-append, size-values}
-use Rattle.layout.specs.Layout.{Source, source, Plan, total, put, advance, laid, widthsOf, names, timesOn, walk, headerWidths, begun, opening, left, rest, planOf}
+use Rattle.grammar.proofs.Ends.{Gives, gives, given, when-gives, then-gives, after-gives, covers, ends-within}
+use Rattle.grammar.proofs.Readings.{Reads, rows-parts, arm-parts, under-parts}
+use Rattle.grammar.proofs.Scope.{Agree, scoped, same-read}
+use Rattle.layout.specs.Layout.{Source, source, Plan, total, put, advance, laid, names, timesOn, walk, headerWidths, begun, opening, left, rest, planOf}
 use Rattle.layout.proofs.Follows.{traceWidths, widths-append, length-widths, total-size, length-put, advance-append, advance-none, laid-all, Tells, tells-parts, lays-trace}
 use Rattle.layout.proofs.Shape.{endless, any-end}
 

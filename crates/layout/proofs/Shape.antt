@@ -1,7 +1,7 @@
 -- What the tables of the standard keep to: each field has 1 to 48 bits, and a table that has no bytes up to an end lays out the
 -- same whatever its end.
 -- Assumes nothing.
-use mathlib.Core.Path.{_≡_, refl, ap, ap₂, _∙_, fun-ext}
+use mathlib.Core.Path.{_≡_, refl, ap, _∙_, fun-ext}
 use mathlib.Core.Bool.{Bool, true, false, cond, _&&_, false≢true}
 use mathlib.Core.List.{List, [], _∷_, _++_}
 use Prim.Native.Nat.{ℕ, zero, suc, _+_, _-_, _*_, _≤_}
@@ -11,7 +11,7 @@ use lib.Dec.{leb, ltb, eqb}
 use borrow.Author.Tests.{leb-true}
 use Rattle.bits.proofs.Cases.{and-left, and-right}
 use Rattle.grammar.specs.Syntax.{Item, Test, Prog, is, among, more, done, stop, fields, branch, call, repeat, frame, fill, under}
-use Rattle.grammar.specs.Meaning.{Env, valueOf, widthOf, width, values, bind, holds, Reading, broken, reached, then, again, sweep, exactly, read}
+use Rattle.grammar.specs.Meaning.{Env, valueOf, widthOf, width, values, bind, holds, Reading, reached, then, again, sweep, exactly, read}
 use Rattle.grammar.specs.Traces.{Trace, rowsOf, size}
 use Rattle.grammar.specs.Tables.{splice-info-section, payload, sized-command, command, splice-schedule, schedule-event, schedule-times, avails, break-duration, avail-numbers, splice-insert, insert-times, insert-component, splice-time, private-command, descriptor-loop, splice-descriptor, known-descriptor, avail-descriptor, dtmf-descriptor, segmentation-descriptor, delivery, segmentation-components, segmentation-end, time-descriptor, audio-descriptor}
 use Rattle.grammar.proofs.Ends.{Gives, breaks, gives, given, when-gives, after-gives, then-gives, numbered-gives}

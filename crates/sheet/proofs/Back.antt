@@ -1,18 +1,18 @@
 -- The numbers of an accepted section's sheet make its very bytes.
 -- Assumes nothing.
 use mathlib.Core.Path.{_≡_, refl, sym, ap, ap₂, _∙_, subst}
-use mathlib.Core.Bool.{Bool, true, cond, _&&_}
+use mathlib.Core.Bool.{Bool, true, cond}
 use mathlib.Core.List.{List, [], _∷_, _++_}
-use Prim.Native.Nat.{ℕ, zero, suc, _+_, _-_, _*_, _/_, _^_, _≤_, _<_}
+use Prim.Native.Nat.{ℕ, zero, suc, _+_, _-_, _*_, _^_, _≤_, _<_}
 use native.Mathlib.Nat.{add-assoc, add-zero}
 use native.Mathlib.Omega.{arith}
-use lib.ListN.{length, getD, take, drop, replicate, length-append, length-replicate, length-take, length-drop, take-append-drop, List·getD-eq-default}
+use lib.ListN.{length, getD, take, drop, replicate, length-replicate, length-take, length-drop, take-append-drop, List·getD-eq-default}
 use lib.Seq.{take-all, take-length, length-take-le, getD-take}
 use mathlib.Core.Logic.{⊎-elim}
 use Rattle.bits.proofs.Cases.{le-or-lt}
 use lib.Dec.{leb, eqb}
 use borrow.Author.Tests.{le-leb, lt-leb, eq-eqb}
-use Rattle.bits.specs.Bits.{bit, num, fieldOf, writable, writtenOf, writeAll}
+use Rattle.bits.specs.Bits.{bit, num, writtenOf, writeAll}
 use Rattle.bits.proofs.Num.{num-lt}
 use Rattle.bits.proofs.Bytes.{AreBytes, bit-lt, bits-ext}
 use Rattle.bits.proofs.Within.{narrow, field-in, can-write}
@@ -25,7 +25,7 @@ use Rattle.grammar.specs.Meaning.{widthOf, values}
 use Rattle.grammar.specs.Traces.{Trace, rowsOf, size, numbers, spans}
 use Rattle.grammar.proofs.RoundTrip.{trace-decides}
 use Rattle.grammar.proofs.Traces.{fits, size-append, spans-append}
-use Rattle.layout.specs.Layout.{Plan, total, planOf}
+use Rattle.layout.specs.Layout.{Plan}
 use Rattle.layout.proofs.Follows.{traceWidths}
 use Rattle.layout.proofs.Shape.{Thin, thin-append}
 use Rattle.section.specs.Accept.{the}

@@ -2,16 +2,16 @@
 -- widths of what the grammar reads.
 -- Assumes nothing.
 use mathlib.Core.Path.{_≡_, refl, sym, ap, ap₂, _∙_, subst}
-use mathlib.Core.Bool.{Bool, true, cond}
+use mathlib.Core.Bool.{Bool, cond}
 use mathlib.Core.List.{List, [], _∷_, _++_, append-assoc}
 use Prim.Native.Nat.{ℕ, zero, suc, _+_, _-_, _*_, _/_, _^_, _≤_, _<_}
 use native.Mathlib.Nat.{add-zero}
 use native.Mathlib.Omega.{arith}
 use lib.ListN.{length, getD, set, take, drop, length-append, length-set, take-append-drop}
-use lib.Seq.{take-suc, take-set-le, drop-set-lt, drop-cons, getD-set-same, take-append-seam, length-take-le}
-use borrow.Author.Tests.{eq-eqb, ne-eqb, lt-ltb, le-leb}
+use lib.Seq.{take-suc, take-set-le, drop-set-lt, getD-set-same, take-append-seam, length-take-le}
+use borrow.Author.Tests.{ne-eqb, lt-ltb, le-leb}
 use Rattle.bits.specs.Bits.{bit, num, within, fieldOf, readAll}
-use Rattle.bits.proofs.Num.{Bits, num-lt}
+use Rattle.bits.proofs.Num.{num-lt}
 use Rattle.bits.proofs.Bytes.{bit-lt}
 use Rattle.bits.proofs.Within.{narrow, field-in}
 use Rattle.grammar.specs.Meaning.{widthOf, values}
@@ -24,7 +24,7 @@ use Rattle.layout.proofs.Follows.{traceWidths, length-widths, total-size, put-a
 use Rattle.layout.proofs.Planned.{Told, start}
 use Rattle.layout.proofs.Shape.{Thin}
 use Rattle.sheet.specs.Sheet.{sheetOf}
-use Rattle.sheet.proofs.Trace.{Whole, whole, length-numbers, after, first, last, body, sheet-numbers, first-spans, last-spans, first-thin, last-thin, body-spans, body-thin, body-size, last-size, sheet-length, body-length}
+use Rattle.sheet.proofs.Trace.{Whole, whole, after, first, last, body, sheet-numbers, first-spans, last-spans, first-thin, last-thin, body-spans, body-thin, body-size, last-size, sheet-length, body-length}
 
 -- ---- lists
 

@@ -3,7 +3,7 @@
 -- Assumes nothing.
 use mathlib.Core.Path.{_≡_, refl, sym, ap, ap₂, _∙_, subst}
 use mathlib.Core.Bool.{Bool, true, false, cond, not, _&&_, false≢true}
-use mathlib.Core.List.{List, [], _∷_, _++_}
+use mathlib.Core.List.{List, [], _++_}
 use mathlib.Core.Logic.{⊎-elim}
 use Prim.Native.Nat.{ℕ, zero, suc, _-_, _*_, _≤_}
 use native.Mathlib.Omega.{arith}
@@ -16,7 +16,6 @@ use Rattle.bits.proofs.Bytes.{AreBytes}
 use Rattle.bits.proofs.Fields.{written-bytes}
 use Rattle.crc.specs.Crc.{crc32}
 use Rattle.units.specs.declared.refusals.Refusal.the-variants.{Sheet}
-use Rattle.units.specs.declared.refusals.Written.{Written}
 use Rattle.units.specs.declared.refusals.Written.the-variants.{Count, Refused}
 use Rattle.units.specs.Refusals.{first}
 use Rattle.units.specs.Answers.{answer, memory}

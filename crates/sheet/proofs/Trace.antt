@@ -1,21 +1,18 @@
 -- What the grammar reads of an accepted section: the header's fields and then the rest, each with 1 to 48 bits, its number as the
 -- bits make it, all bytes before CRC_32 and no more.
 -- Assumes nothing.
-use mathlib.Core.Path.{_≡_, refl, sym, ap, ap₂, _∙_, subst}
+use mathlib.Core.Path.{_≡_, refl, sym, ap, _∙_, subst}
 use mathlib.Core.List.{List, [], _∷_, _++_}
-use Prim.Native.Nat.{ℕ, zero, suc, _+_, _-_, _*_, _^_, _≤_, _<_}
+use Prim.Native.Nat.{ℕ, zero, suc, _+_, _-_, _*_, _≤_}
 use native.Mathlib.Nat.{add-assoc, add-zero}
 use native.Mathlib.Omega.{arith}
-use lib.ListN.{length, length-append}
+use lib.ListN.{length}
 use Rattle.bits.specs.Bits.{bit, num}
-use Rattle.bits.proofs.Num.{num-lt}
-use Rattle.bits.proofs.Bytes.{bit-lt}
 use Rattle.grammar.specs.Syntax.{Item, field, reserved}
-use Rattle.grammar.specs.Meaning.{widthOf, values, Reading, broken, reached, read}
+use Rattle.grammar.specs.Meaning.{widthOf, values, reached, read}
 use Rattle.grammar.specs.Tables.{header, splice-info-section}
 use Rattle.grammar.specs.Traces.{Trace, rowsOf, size, numbers, spans}
 use Rattle.grammar.proofs.Ends.{covers, trace-spans, ends-within}
-use Rattle.grammar.proofs.Traces.{size-append, size-values, numbers-append}
 use Rattle.descriptors.specs.Loop.{traceOf}
 use Rattle.layout.proofs.Shape.{Thin, thin-length, section-thin}
 use Rattle.layout.proofs.Planned.{Body, body-of}

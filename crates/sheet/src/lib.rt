@@ -49,6 +49,7 @@ fn numbers(section: &[u8], widths: &mut [u8], out: &mut [u64]) -> Written
 pub fn to_section(sheet: &[u64], out: &mut [u8]) -> Written
     ensures { λ r. ⌜ (r ≡ toSection (now (sheet .entry)) (now (out .entry))) × (now (out .exit) ≡ toSectionInto (now (sheet .entry)) (now (out .entry))) ⌝ }
 {
+    // the header has 11 numbers
     if sheet.len() < 11 {
         return Written::Refused(Refusal::Sheet);
     }
@@ -69,6 +70,7 @@ fn bytes(sheet: &[u64], widths: &mut [u8], out: &mut [u8]) -> Written
     ensures { λ r. ⌜ (r ≡ toSection (now (sheet .entry)) (now (out .entry))) × (now (out .exit) ≡ toSectionInto (now (sheet .entry)) (now (out .entry))) ⌝ }
 {
     let fields = layout::plan(&[], sheet, widths);
+    // 4,092 bytes stand before CRC_32 at most
     if 32736 < fields.at {
         return Written::Refused(Refusal::Sheet);
     }

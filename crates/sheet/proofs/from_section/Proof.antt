@@ -1,10 +1,8 @@
 -- `sheet::from_section` meets its contract: a refusal is that of its row, and an accepted section has memory for its fields.
 -- Assumes nothing.
-use mathlib.Core.Path.{_≡_, sym, _∙_}
+use mathlib.Core.Path.{sym, _∙_}
 use native.Mathlib.Omega.{arith}
 use lib.ListN.{length}
-use Rattle.section.specs.declared.Verdict.the-variants.{Accepted}
-use Rattle.section.specs.Accept.{acceptOf}
 use Rattle.section.proofs.Accepted.{accepted}
 use Rattle.sheet.proofs.Rows.{not-accepted}
 use borrow.Author.Needs.{needs}

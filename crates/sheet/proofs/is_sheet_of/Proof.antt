@@ -1,8 +1,7 @@
 -- `sheet::is_sheet_of` meets its contract: a refused section has no sheet, and an accepted one has memory for its fields.
 -- Assumes nothing.
-use mathlib.Core.Path.{_≡_, sym, _∙_}
+use mathlib.Core.Path.{sym, _∙_}
 use native.Mathlib.Omega.{arith}
-use lib.ListN.{length}
 use Rattle.section.proofs.Accepted.{accepted}
 use Rattle.sheet.proofs.Same.{not-section}
 use borrow.Author.Needs.{needs}

@@ -1,6 +1,6 @@
 -- `sheet::made` meets its contract: the bytes that the numbers make count if they are a section with that sheet.
 -- Assumes nothing.
-use mathlib.Core.Path.{_≡_, sym, ap, _∙_, subst}
+use mathlib.Core.Path.{_≡_, sym, ap, _∙_}
 use mathlib.Core.List.{List, _++_}
 use Prim.Native.Nat.{ℕ}
 use native.Mathlib.Omega.{arith}
@@ -8,7 +8,7 @@ use lib.ListN.{length, take, drop}
 use lib.Seq.{length-take-le}
 use borrow.Author.Tests.{not-true, not-false}
 use Rattle.units.specs.declared.refusals.Written.the-variants.{Count}
-use Rattle.sheet.specs.Sheet.{filled, summed, isSheetOf, Judged}
+use Rattle.sheet.specs.Sheet.{filled, summed, isSheetOf}
 use Rattle.sheet.proofs.Rows.{not-it, no-room-for, section-written}
 use borrow.Author.Needs.{needs}
 use Rattle.sheet.proofs.made.Statement.{statement}
