@@ -20,6 +20,45 @@ pub fn read(s: &[u8], at: usize, width: usize) -> u64
     }
 }
 
+// The 16 bits of the two bytes from byte i on; 0 where they are not both there.
+pub fn pair(s: &[u8], i: usize) -> u64
+    ensures { λ r. ⌜ r ≡ fieldOf (now (s .entry)) (8 * i) 16 ⌝ }
+{
+    if s.len() < 2 {
+        return 0;
+    }
+    if s.len() - 2 < i {
+        return 0;
+    }
+    wide(s[i]) * 256 + wide(s[i + 1])
+}
+
+// The last 12 bits of the two bytes from byte i on; 0 where they are not both there.
+pub fn twelve(s: &[u8], i: usize) -> u64
+    ensures { λ r. ⌜ r ≡ fieldOf (now (s .entry)) (8 * i + 4) 12 ⌝ }
+{
+    if s.len() < 2 {
+        return 0;
+    }
+    if s.len() - 2 < i {
+        return 0;
+    }
+    (wide(s[i]) % 16) * 256 + wide(s[i + 1])
+}
+
+// The 32 bits of the four bytes from byte i on; 0 where they are not all there.
+pub fn quad(s: &[u8], i: usize) -> u64
+    ensures { λ r. ⌜ r ≡ fieldOf (now (s .entry)) (8 * i) 32 ⌝ }
+{
+    if s.len() < 4 {
+        return 0;
+    }
+    if s.len() - 4 < i {
+        return 0;
+    }
+    half(s, i)
+}
+
 // Gives the field of `width` bits at place `at` the value, and says whether it did: a field wider than 48 bits, one that
 // runs past the end and a value that needs more bits change nothing.
 pub fn write(s: &mut [u8], at: usize, width: usize, value: u64) -> bool

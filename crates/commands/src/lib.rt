@@ -21,7 +21,7 @@ pub fn command_end(s: &[u8]) -> Ended
         return Ended::Broken;
     }
     let end = s.len() - 4;
-    let splice_command_length = bits::read(s, 92, 12);
+    let splice_command_length = bits::twelve(s, 11);
     if splice_command_length == 0xFFF {
         return command(s, 14, end, s[13], false);
     }

@@ -99,7 +99,7 @@ fn identifier(s: &[u8], at: usize) -> u64
     requires { ⌜ at + 4 ≤ length (now s) ⌝ }
     ensures { λ r. ⌜ r ≡ num (bit (now (s .entry))) (8 * at) 32 ⌝ }
 {
-    bits::read(&s[at..], 0, 32)
+    bits::quad(s, at)
 }
 
 // A descriptor of that kind, after the identifier.

@@ -36,7 +36,7 @@ pub fn accept(s: &[u8]) -> Verdict
     if 64 <= s[1] {
         return Verdict::Refused(Refusal::Syntax);
     }
-    let section_length = bits::read(s, 12, 12) as usize;
+    let section_length = bits::twelve(s, 1) as usize;
     if 4093 < section_length {
         return Verdict::Refused(Refusal::Size);
     }
@@ -73,7 +73,7 @@ pub fn first_cursor(s: &[u8]) -> Cursor
     let Ended::At(at) = commands::command_end(s) else {
         return Cursor { at: 0, end: 0 };
     };
-    let descriptor_loop_length = bits::read(s, 8 * at, 16) as usize;
+    let descriptor_loop_length = bits::pair(s, at) as usize;
     Cursor {
         at: at + 2,
         end: at + 2 + descriptor_loop_length,
@@ -100,7 +100,7 @@ fn descriptor_loop(s: &[u8], at: usize) -> Verdict
     if end - at < 2 {
         return Verdict::Refused(Refusal::Loop);
     }
-    let descriptor_loop_length = bits::read(s, 8 * at, 16) as usize;
+    let descriptor_loop_length = bits::pair(s, at) as usize;
     if end - at - 2 < descriptor_loop_length {
         return Verdict::Refused(Refusal::Loop);
     }

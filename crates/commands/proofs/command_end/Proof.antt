@@ -36,14 +36,14 @@ given-type : (s : List ℕ) → getD s 13 0 < 256 → valueOf (known s) "splice_
 unfolding known
 given-type s h = octet s 13 104 h refl
 
-given-length : (t : tie.After-read) → valueOf (known (t .before .before .before .args .s .now)) "splice_command_length" ≡ t .read .result
+given-length : (t : tie.After-twelve) → valueOf (known (t .before .before .before .args .s .now)) "splice_command_length" ≡ t .twelve .result
 unfolding known
 given-length t =
     let s = t .before .before .before .args .s .now in
-    sym (t .read .ensures ∙ field-in s 92 12 (narrow s 92 12 (omega arith) ∙ le-leb (92 + 12) (8 * length s) (omega arith)))
+    sym (t .twelve .ensures ∙ field-in s 92 12 (narrow s 92 12 (omega arith) ∙ le-leb (92 + 12) (8 * length s) (omega arith)))
 
 -- where the part that the length gives ends
-part-end : (t : tie.After-read) → 8 * 14 + 8 * valueOf (known (t .before .before .before .args .s .now)) "splice_command_length" ≡ 8 * (14 + t .read .result)
+part-end : (t : tie.After-twelve) → 8 * 14 + 8 * valueOf (known (t .before .before .before .args .s .now)) "splice_command_length" ≡ 8 * (14 + t .twelve .result)
 part-end t = omega (arith, given-length t)
 
 returns : tie.Need-returns
@@ -55,8 +55,8 @@ returns c =
 sub-end : tie.Need-sub-end
 sub-end c = search needs
 
-read-requires : tie.Need-read-requires
-read-requires c κs = search needs
+twelve-requires : tie.Need-twelve-requires
+twelve-requires c κs = search needs
 
 shared-slice-read-command : tie.Need-shared-slice-read-command
 shared-slice-read-command c = search needs
@@ -118,7 +118,7 @@ returns-5 c =
     let t = c .before .before .before .before .before .before .before .before in
     let s = t .before .before .before .args .s .now in
     let long : 20 ≤ length s = omega arith in
-    finish s (At (14 + t .read .result)) long
+    finish s (At (14 + t .twelve .result)) long
     (no-last (ne-eqb _ 4095 (λ q. c .before .before .before .before .before .before .before .if2 .left (sym (given-length t) ∙ q)))
     (framed-all (part-end t) (omega arith)
     (by-type private-command (bytes "command_byte") (getD s 13 0) (given-type s ((c .before .before .before .before .before .shared-slice-known3 .given 13) .fits))
@@ -144,7 +144,7 @@ command-end-spec =
     (tie.spec
     returns
     sub-end
-    read-requires
+    twelve-requires
     shared-slice-read-command
     command-requires
     returns-2

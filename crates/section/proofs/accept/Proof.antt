@@ -28,11 +28,11 @@ unfolding acceptOf acceptRow
 decide s n row e = e ∙ ap verdict (sym (row .row))
 
 -- section_length, as the code reads it
-given-length : (t : tie.After-read) → the (t .before .before .before .before .before .before .before .args .s .now) "section_length" ≡ t .read .result
+given-length : (t : tie.After-twelve) → the (t .before .before .before .before .before .before .before .args .s .now) "section_length" ≡ t .twelve .result
 unfolding the
 given-length t =
     let s = t .before .before .before .before .before .before .before .args .s .now in
-    sym (t .read .ensures ∙ field-in s 12 12 (narrow s 12 12 (omega arith) ∙ le-leb (12 + 12) (8 * length s) (omega arith)))
+    sym (t .twelve .ensures ∙ field-in s 12 12 (narrow s 12 12 (omega arith) ∙ le-leb (12 + 12) (8 * length s) (omega arith)))
 
 returns : tie.Need-returns
 unfolding verdict
@@ -64,8 +64,8 @@ returns-3 c =
     (miss (table s hs (c .before .before .if2 .left))
     (hit (syntax-set s hs (c .if3 .taken))))) refl
 
-read-requires : tie.Need-read-requires
-read-requires c κs = search needs
+twelve-requires : tie.Need-twelve-requires
+twelve-requires c κs = search needs
 
 returns-4 : tie.Need-returns-4
 unfolding verdict
@@ -180,7 +180,7 @@ accept-spec =
     returns-2
     shared-slice-read-if3
     returns-3
-    read-requires
+    twelve-requires
     returns-4
     add-if5
     returns-5

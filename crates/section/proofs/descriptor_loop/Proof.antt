@@ -17,19 +17,19 @@ use Rattle.section.proofs.descriptor_loop.Statement.{statement}
 use Rattle.section.proofs.descriptor_loop.Tie as tie
 
 -- the loop's length, as the code reads it
-given-length : (t : tie.After-read) → num (bit (t .before .before .before .args .s .now)) (8 * t .before .before .before .args .at) 16 ≡ t .read .result
+given-length : (t : tie.After-pair) → num (bit (t .before .before .before .args .s .now)) (8 * t .before .before .before .args .at) 16 ≡ t .pair .result
 given-length t =
     let a = t .before .before .before .args in
     let s = a .s .now in
-    sym (t .read .ensures ∙ field-in s (8 * a .at) 16 (narrow s (8 * a .at) 16 (omega arith) ∙ le-leb (8 * a .at + 16) (8 * length s) (omega arith)))
+    sym (t .pair .ensures ∙ field-in s (8 * a .at) 16 (narrow s (8 * a .at) 16 (omega arith) ∙ le-leb (8 * a .at + 16) (8 * length s) (omega arith)))
 
-after-length : (t : tie.After-read) → 8 * t .before .before .before .args .at + 16 ≡ 8 * (t .before .before .before .args .at + 2)
+after-length : (t : tie.After-pair) → 8 * t .before .before .before .args .at + 16 ≡ 8 * (t .before .before .before .args .at + 2)
 after-length t = omega arith
 
 -- where the loop ends
-part-end : (t : tie.After-read) →
+part-end : (t : tie.After-pair) →
     8 * t .before .before .before .args .at + 16 + 8 * num (bit (t .before .before .before .args .s .now)) (8 * t .before .before .before .args .at) 16
-    ≡ 8 * (t .before .before .before .args .at + 2 + t .read .result)
+    ≡ 8 * (t .before .before .before .args .at + 2 + t .pair .result)
 part-end t = omega (arith, given-length t)
 
 sub-end : tie.Need-sub-end
@@ -42,11 +42,8 @@ returns : tie.Need-returns
 unfolding descriptor-loop
 returns c = (λ env. ruled (short (omega arith)) refl, omega arith)
 
-mul-read : tie.Need-mul-read
-mul-read c = search needs
-
-read-requires : tie.Need-read-requires
-read-requires c κs = search needs
+pair-requires : tie.Need-pair-requires
+pair-requires c κs = search needs
 
 sub-if2 : tie.Need-sub-if2
 sub-if2 c = search needs
@@ -78,7 +75,7 @@ returns-3 c =
     let t = c .before .before .before in
     let a = t .before .before .before .args in
     let s = a .s .now in
-    let e : ℕ = a .at + 2 + t .read .result in
+    let e : ℕ = a .at + 2 + t .pair .result in
     let stuffing : 8 * e + 8 * (length s - 4 - e) ≡ 8 * (length s - 4) = omega arith in (
       λ env.
           ruled
@@ -96,7 +93,7 @@ returns-4 c =
     let t = c .before .before .before in
     let a = t .before .before .before .args in
     let s = a .s .now in
-    let e : ℕ = a .at + 2 + t .read .result in (
+    let e : ℕ = a .at + 2 + t .pair .result in (
       λ env.
           ruled
           (pass (omega arith)
@@ -113,8 +110,7 @@ descriptor-loop-spec =
     sub-end
     sub-if1
     returns
-    mul-read
-    read-requires
+    pair-requires
     sub-if2
     sub-if2-2
     returns-2

@@ -37,14 +37,14 @@ inside t =
     (command-within _ _ (a .long) (ended t) .1, a .fits)
 
 -- the loop's length, as the code reads it
-given-length : (t : tie.After-read) →
+given-length : (t : tie.After-pair) →
     num (bit (t .before .before .before .before .before .before .before .before .before .before .before .args .s .now)) (8 * t .before .before .at .given .0 .0) 16
-    ≡ t .read .result
+    ≡ t .pair .result
 given-length t =
     let s = t .before .before .before .before .before .before .before .before .before .before .before .args .s .now in
     let k : ℕ = 8 * t .before .before .at .given .0 .0 in
     let l = inside (t .before .before) in
-    sym (t .read .ensures ∙ field-in s k 16 (narrow s k 16 (omega arith) ∙ le-leb (k + 16) (8 * length s) (omega arith)))
+    sym (t .pair .ensures ∙ field-in s k 16 (narrow s k 16 (omega arith) ∙ le-leb (k + 16) (8 * length s) (omega arith)))
 
 accept-requires : tie.Need-accept-requires
 accept-requires c κs = search needs
@@ -85,11 +85,8 @@ returns-3 c =
     let hs : AreBytes s = λ i. (e .before .shared-slice-known2 .given i) .fits in
     sym (no-command s (allowed t) (clear s hs (e .if1 .left)) 0 (sym (c .before .before .command-end .ensures) ∙ ap outcome (c .enum-told3 .given .1)))
 
-mul-read : tie.Need-mul-read
-mul-read c = omega (arith, inside (c .before))
-
-read-requires : tie.Need-read-requires
-read-requires c κs = search needs
+pair-requires : tie.Need-pair-requires
+pair-requires c κs = search needs
 
 add-t10 : tie.Need-add-t10
 add-t10 c = omega (arith, inside (c .before .before))
@@ -127,8 +124,7 @@ first-cursor-spec =
     enum-known-at
     enum-told-3
     returns-3
-    mul-read
-    read-requires
+    pair-requires
     add-t10
     add-t11
     add-t12
