@@ -24,21 +24,28 @@ fn archive(package: &Path) {
 }
 
 fn yardstick(package: &Path) {
-    for file in ["yardstick.c", "yardstick.h", "yardstick_tables.h"] {
-        println!("cargo:rerun-if-changed={file}");
+    for header in ["yardstick.h", "yardstick_parts.h", "yardstick_tables.h"] {
+        println!("cargo:rerun-if-changed={header}");
     }
     println!("cargo:rerun-if-env-changed=CC");
+    for part in ["yardstick", "yardstick_sheet", "yardstick_unsheet"] {
+        compile(&package.join(part).with_extension("c"), part);
+    }
+}
+
+fn compile(source: &Path, part: &str) {
+    println!("cargo:rerun-if-changed={}", source.display());
     let compiler = env::var("CC").unwrap_or_else(|_| "cc".to_string());
-    let object = Path::new(&env::var("OUT_DIR").expect("cargo names a folder to build in"))
-        .join("yardstick.o");
+    let folder = env::var("OUT_DIR").expect("cargo names a folder to build in");
+    let object = Path::new(&folder).join(part).with_extension("o");
     let status = Command::new(&compiler)
         .args(["-std=c11", "-O2", "-Wall", "-Wextra", "-c", "-o"])
         .arg(&object)
-        .arg(package.join("yardstick.c"))
+        .arg(source)
         .status();
     assert!(
         status.is_ok_and(|status| status.success()),
-        "{compiler} does not compile yardstick.c"
+        "{compiler} does not compile {part}.c"
     );
     println!("cargo:rustc-link-arg={}", object.display());
 }

@@ -1,16 +1,10 @@
 /* The yardstick: CRC by bytes, base64 by four characters, the fields by plain code over bytes.
    A function of a field answers the place behind it, or NULL where it breaks the grammar. */
 #include "yardstick.h"
+#include "yardstick_parts.h"
 #include "yardstick_tables.h"
 
-#include <stdbool.h>
-
-enum row {
-    ACCEPTED, SHORT, TABLE, SYNTAX, SIZE, CRC, VERSION, CRYPT, COMMAND, LOOP, DESCRIPTOR,
-    ROOM, TEXTLEN, TEXTCHAR, TEXTBITS,
-};
-
-enum { CUEI = 0x43554549, UNSTATED = 0xFFF, LONGEST_TEXT = 5464, LONGEST_LENGTH = 4093 };
+enum { LONGEST_TEXT = 5464, LONGEST_LENGTH = LONGEST_SECTION - 3 };
 
 uint32_t yardstick_crc32(const uint8_t *bytes, size_t len)
 {
@@ -184,17 +178,6 @@ static const uint8_t *command(const uint8_t *section, const uint8_t *end)
     return sized && at != end ? NULL : at;
 }
 
-/* The types that may carry sub_segment_num and sub_segments_expected. */
-static bool has_sub_segments(uint8_t segmentation_type_id)
-{
-    switch (segmentation_type_id) {
-    case 0x30: case 0x32: case 0x34: case 0x36: case 0x38: case 0x3A: case 0x44: case 0x46:
-        return true;
-    default:
-        return false;
-    }
-}
-
 static const uint8_t *segmentation(const uint8_t *at, const uint8_t *end)
 {
     if (!has(at, end, 5))
@@ -239,11 +222,6 @@ static const uint8_t *body(uint8_t tag, const uint8_t *at, const uint8_t *end)
     default:
         return end;
     }
-}
-
-static uint32_t big_endian_32(const uint8_t *at)
-{
-    return (uint32_t)at[0] << 24 | (uint32_t)at[1] << 16 | (uint32_t)at[2] << 8 | at[3];
 }
 
 /* Whether descriptors fill the bytes exactly. */

@@ -23,4 +23,19 @@ uint32_t yardstick_accept(const uint8_t *section, size_t len);
 uint32_t yardstick_accept_by(uint32_t (*crc32)(const uint8_t *, size_t), const uint8_t *section,
                              size_t len);
 
+/* The sheet of a section, written to out: how many numbers, or minus the row that refuses it.
+   A refusal leaves out as it was, here and below. */
+int32_t yardstick_section_to_sheet(const uint8_t *section, size_t len, uint64_t *out, size_t room);
+
+/* The section of a sheet, written to out: how many bytes, or minus the row that refuses it. */
+int32_t yardstick_sheet_to_section(const uint64_t *sheet, size_t len, uint8_t *out, size_t room);
+
+/* The same two, by a CRC of the caller's. */
+int32_t yardstick_section_to_sheet_by(uint32_t (*crc32)(const uint8_t *, size_t),
+                                      const uint8_t *section, size_t len, uint64_t *out,
+                                      size_t room);
+int32_t yardstick_sheet_to_section_by(uint32_t (*crc32)(const uint8_t *, size_t),
+                                      const uint64_t *sheet, size_t len, uint8_t *out,
+                                      size_t room);
+
 #endif

@@ -1,7 +1,9 @@
 //! Before anything is timed: all three programs give the same answers, on inputs whole and damaged.
 //! Whole ones must be accepted, so that no time is that of a refusal.
 
-use crate::samples::{build, shapes, Sample};
+mod sheets;
+
+use crate::samples::{build, shapes, Sample, LONGEST_SECTION};
 use crate::{proved, yardstick};
 
 /// Sections up to this length are damaged too.
@@ -11,13 +13,15 @@ const DAMAGED: usize = 300;
 pub fn check(samples: &[&Sample]) -> Result<usize, String> {
     let mut compared = 0;
     for sample in samples {
-        for (section, text) in sample.sections.iter().zip(&sample.texts) {
+        for (turn, section) in sample.sections.iter().enumerate() {
             compared += same_row(section, Some(0))?;
-            compared += same_text(text, Some(section))?;
+            compared += same_text(&sample.texts[turn], Some(section))?;
+            compared += sheets::whole(section, &sample.sheets[turn])?;
         }
         if sample.bytes <= DAMAGED {
             compared += damaged_section(&sample.sections[0])?;
             compared += damaged_text(&sample.texts[0])?;
+            compared += sheets::damaged(&sample.sections[0])?;
         }
     }
     for section in shapes::too_long() {
@@ -25,6 +29,7 @@ pub fn check(samples: &[&Sample]) -> Result<usize, String> {
     }
     for section in shapes::sections() {
         compared += damaged_section(&section)?;
+        compared += sheets::damaged(&section)?;
     }
     for text in shapes::texts() {
         compared += damaged_text(&text)?;
@@ -35,20 +40,24 @@ pub fn check(samples: &[&Sample]) -> Result<usize, String> {
 /// The section, every length that it is cut to, and every byte changed to every other, each with
 /// the CRC put right; and every byte changed with the CRC left wrong.
 fn damaged_section(section: &[u8]) -> Result<usize, String> {
-    let mut compared = same_row(section, None)?;
+    let mut compared = same_row_and_sheet(section)?;
     for place in 0..section.len() {
-        compared += same_row(&section[..place], None)?;
+        compared += same_row_and_sheet(&section[..place])?;
         for change in 0..=255 {
             let mut other = section.to_vec();
             other[place] ^= change;
             if change == 0xFF {
-                compared += same_row(&other, None)?;
+                compared += same_row_and_sheet(&other)?;
             }
             build::put_crc(&mut other);
-            compared += same_row(&other, None)?;
+            compared += same_row_and_sheet(&other)?;
         }
     }
     Ok(compared)
+}
+
+fn same_row_and_sheet(section: &[u8]) -> Result<usize, String> {
+    Ok(same_row(section, None)? + sheets::of_any(section)?)
 }
 
 /// The text, every length that it is cut to, and every character changed to every byte.
@@ -88,10 +97,10 @@ fn same_row(section: &[u8], expected: Option<u32>) -> Result<usize, String> {
 
 /// The bytes of a text or the row that refuses it, and every byte of the memory lent for them.
 fn same_text(text: &[u8], expected: Option<&[u8]>) -> Result<usize, String> {
-    let by_second = second::text::text_to_section(text, ROOM).map_err(u32::from);
+    let by_second = second::text::text_to_section(text, LONGEST_SECTION).map_err(u32::from);
     let by_proved = read(text, proved::text_to_section);
     let by_yardstick = read(text, yardstick::text_to_section);
-    let mut out = vec![LENT; ROOM];
+    let mut out = vec![LENT; LONGEST_SECTION];
     if let Ok(section) = &by_second {
         out[..section.len()].copy_from_slice(section);
     }
@@ -111,13 +120,12 @@ fn same_text(text: &[u8], expected: Option<&[u8]>) -> Result<usize, String> {
     ))
 }
 
-/// The room that a text is given, and what stands there before.
-const ROOM: usize = 4_096;
+/// What stands before in the memory lent for a text.
 const LENT: u8 = 0xA5;
 
 type ReadText = fn(&[u8], &mut [u8]) -> Result<usize, u32>;
 
 fn read(text: &[u8], by: ReadText) -> (Result<usize, u32>, Vec<u8>) {
-    let mut out = vec![LENT; ROOM];
+    let mut out = vec![LENT; LONGEST_SECTION];
     (by(text, &mut out), out)
 }

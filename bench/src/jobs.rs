@@ -1,14 +1,18 @@
 //! The jobs that are timed on a sample, by each of the programs, and what their times come to.
 //! fields is what a section costs besides its CRC; three ways of taking it stand side by side.
 
+pub mod sheets;
+
 use crate::rounds::{least, median, ratios, run, Contender, Times};
-use crate::samples::Sample;
+use crate::samples::{Sample, LONGEST_SECTION};
 use crate::{proved, yardstick};
 
 /// One line of the table: nanoseconds of a call, and how the proved library's compare.
 pub struct Line {
     pub job: &'static str,
     pub proved: f64,
+    /// The least of the rounds, for which other work on the machine matters least.
+    pub proved_least: f64,
     pub c: f64,
     pub second: Option<f64>,
     /// proved / C: the median of the rounds' ratios, or, where a CRC is taken away, of medians.
@@ -17,13 +21,10 @@ pub struct Line {
     pub least: f64,
 }
 
-/// The longest section that a text is read to.
-const ROOM: usize = 4_096;
-
 /// crc, text, accept and fields of a sample, and the sum of all answers.
 pub fn all(sample: &Sample) -> (Vec<Line>, u64) {
     let (sections, texts) = (&sample.sections, &sample.texts);
-    let (mut out, mut other_out) = (vec![0; ROOM], vec![0; ROOM]);
+    let (mut out, mut other_out) = (vec![0; LONGEST_SECTION], vec![0; LONGEST_SECTION]);
     let (times, sum) = run(vec![
         Contender::new(sections, |section| proved::crc32(section).into()),
         Contender::new(sections, |section| yardstick::crc32(section).into()),
@@ -78,6 +79,7 @@ fn called(job: &'static str, proved: &Times, c: &Times, second: &Times) -> Line 
     Line {
         job,
         proved: median(proved),
+        proved_least: least(proved),
         c: median(c),
         second: Some(median(second)),
         median: median(&ratios(proved, c)),
@@ -96,6 +98,7 @@ fn without(
     Line {
         job,
         proved: proved(median),
+        proved_least: proved(least),
         c: c(median),
         second: None,
         median: proved(median) / c(median),
@@ -108,16 +111,16 @@ fn second_accept(section: &[u8]) -> u64 {
 }
 
 fn second_text(text: &[u8]) -> u64 {
-    match second::text::text_to_section(text, ROOM) {
+    match second::text::text_to_section(text, LONGEST_SECTION) {
         Ok(section) => written(Ok(section.len()), &section),
         Err(row) => row.into(),
     }
 }
 
-/// An answer that needs the last byte that was written.
-fn written(answer: Result<usize, u32>, out: &[u8]) -> u64 {
+/// An answer that needs the last byte or number that was written.
+fn written<T: Copy + Into<u64>>(answer: Result<usize, u32>, out: &[T]) -> u64 {
     match answer {
-        Ok(count) => count as u64 + u64::from(out[count - 1]),
+        Ok(count) => count as u64 + out[count - 1].into(),
         Err(row) => row.into(),
     }
 }

@@ -11,6 +11,18 @@ extern "C" {
         out: *mut u8,
         out_len: usize,
     ) -> u64;
+    fn timpanimist_section_to_sheet(
+        section: *const u8,
+        section_len: usize,
+        out: *mut u64,
+        out_len: usize,
+    ) -> u64;
+    fn timpanimist_sheet_to_section(
+        sheet: *const u64,
+        sheet_len: usize,
+        out: *mut u8,
+        out_len: usize,
+    ) -> u64;
 }
 
 /// A refusal is answered as this plus its row.
@@ -30,7 +42,22 @@ pub fn accept(section: &[u8]) -> u32 {
 /// How many bytes of `out` were written, or the row that refuses the text.
 pub fn text_to_section(text: &[u8], out: &mut [u8]) -> Result<usize, u32> {
     let (from, to) = (text.as_ptr(), out.as_mut_ptr());
-    let answer = unsafe { timpanimist_text_to_section(from, text.len(), to, out.len()) };
+    written(unsafe { timpanimist_text_to_section(from, text.len(), to, out.len()) })
+}
+
+/// How many numbers of `out` were written, or the row that refuses the section.
+pub fn section_to_sheet(section: &[u8], out: &mut [u64]) -> Result<usize, u32> {
+    let (from, to) = (section.as_ptr(), out.as_mut_ptr());
+    written(unsafe { timpanimist_section_to_sheet(from, section.len(), to, out.len()) })
+}
+
+/// How many bytes of `out` were written, or the row that refuses the sheet.
+pub fn sheet_to_section(sheet: &[u64], out: &mut [u8]) -> Result<usize, u32> {
+    let (from, to) = (sheet.as_ptr(), out.as_mut_ptr());
+    written(unsafe { timpanimist_sheet_to_section(from, sheet.len(), to, out.len()) })
+}
+
+fn written(answer: u64) -> Result<usize, u32> {
     if answer < REFUSED {
         Ok(answer as usize)
     } else {

@@ -18,9 +18,9 @@ pub struct Contender<'a> {
 
 impl<'a> Contender<'a> {
     /// Asks about the inputs in turn, in a loop of its own, so that a call costs only itself.
-    pub fn new<const N: usize>(
-        ring: &'a [Vec<u8>; N],
-        mut question: impl FnMut(&[u8]) -> u64 + 'a,
+    pub fn new<T, const N: usize>(
+        ring: &'a [Vec<T>; N],
+        mut question: impl FnMut(&[T]) -> u64 + 'a,
     ) -> Contender<'a> {
         let batch = move |calls| {
             let mut sum = 0u64;

@@ -11,6 +11,27 @@ extern "C" {
     fn yardstick_accept(section: *const u8, len: usize) -> u32;
     fn yardstick_accept_by(crc32: Crc, section: *const u8, len: usize) -> u32;
     fn yardstick_text_to_section(text: *const u8, len: usize, out: *mut u8, room: usize) -> i32;
+    fn yardstick_section_to_sheet(
+        section: *const u8,
+        len: usize,
+        out: *mut u64,
+        room: usize,
+    ) -> i32;
+    fn yardstick_section_to_sheet_by(
+        crc32: Crc,
+        section: *const u8,
+        len: usize,
+        out: *mut u64,
+        room: usize,
+    ) -> i32;
+    fn yardstick_sheet_to_section(sheet: *const u64, len: usize, out: *mut u8, room: usize) -> i32;
+    fn yardstick_sheet_to_section_by(
+        crc32: Crc,
+        sheet: *const u64,
+        len: usize,
+        out: *mut u8,
+        room: usize,
+    ) -> i32;
 }
 
 // In every call below, the pointer and the length are those of one live slice.
@@ -37,6 +58,33 @@ pub fn accept_by_the_proved_crc(section: &[u8]) -> u32 {
 /// How many bytes of `out` were written, or the row that refuses the text.
 pub fn text_to_section(text: &[u8], out: &mut [u8]) -> Result<usize, u32> {
     let (from, to) = (text.as_ptr(), out.as_mut_ptr());
-    let answer = unsafe { yardstick_text_to_section(from, text.len(), to, out.len()) };
+    written(unsafe { yardstick_text_to_section(from, text.len(), to, out.len()) })
+}
+
+/// How many numbers of `out` were written, or the row that refuses the section.
+pub fn section_to_sheet(section: &[u8], out: &mut [u64]) -> Result<usize, u32> {
+    let (from, to) = (section.as_ptr(), out.as_mut_ptr());
+    written(unsafe { yardstick_section_to_sheet(from, section.len(), to, out.len()) })
+}
+
+/// The same, with the proved library's CRC in the place of its own.
+pub fn section_to_sheet_by_the_proved_crc(section: &[u8], out: &mut [u64]) -> Result<usize, u32> {
+    let (crc, from, to) = (timpanimist_crc32, section.as_ptr(), out.as_mut_ptr());
+    written(unsafe { yardstick_section_to_sheet_by(crc, from, section.len(), to, out.len()) })
+}
+
+/// How many bytes of `out` were written, or the row that refuses the sheet.
+pub fn sheet_to_section(sheet: &[u64], out: &mut [u8]) -> Result<usize, u32> {
+    let (from, to) = (sheet.as_ptr(), out.as_mut_ptr());
+    written(unsafe { yardstick_sheet_to_section(from, sheet.len(), to, out.len()) })
+}
+
+/// The same, with the proved library's CRC in the place of its own.
+pub fn sheet_to_section_by_the_proved_crc(sheet: &[u64], out: &mut [u8]) -> Result<usize, u32> {
+    let (crc, from, to) = (timpanimist_crc32, sheet.as_ptr(), out.as_mut_ptr());
+    written(unsafe { yardstick_sheet_to_section_by(crc, from, sheet.len(), to, out.len()) })
+}
+
+fn written(answer: i32) -> Result<usize, u32> {
     usize::try_from(answer).map_err(|_| answer.unsigned_abs())
 }

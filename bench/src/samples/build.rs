@@ -51,6 +51,20 @@ pub fn descriptors(bytes: usize) -> Vec<u8> {
     section(0x06, &time, &filled, room - filled.len())
 }
 
+/// A splice_null of that many bytes, all but 20 of them stuffing.
+pub fn stuffing(bytes: usize) -> Vec<u8> {
+    section(0x00, &[], &[], bytes - 20)
+}
+
+/// 4,096 bytes with 4,554 numbers, the most there can be: an insert of 255 components without a
+/// time, 209 short segmentations with restricted delivery, and two bytes of stuffing.
+pub fn longest_sheet() -> Vec<u8> {
+    let components: Vec<u8> = (0..255).flat_map(|tag| [tag, 0x7F]).collect();
+    let command = [&[0, 0, 0, 1, 0x7F, 0x8F, 255][..], &components, &[0; 4]].concat();
+    let segmentation = known(2, &[0, 0, 0, 1, 0x7F, 0x9F, 0, 0, 0x10, 0, 0]);
+    section(0x05, &command, &segmentation.repeat(209), 2)
+}
+
 /// A splice_schedule of that many events: with a duration, without, cancelled, and by components.
 pub fn schedule(events: u8) -> Vec<u8> {
     let time = [0x4F, 0x3A, 0x91, 0x07];
