@@ -30,7 +30,7 @@ pub fn pair(s: &[u8], i: usize) -> u64
     if s.len() - 2 < i {
         return 0;
     }
-    wide(s[i]) * 256 + wide(s[i + 1])
+    256 * wide(s[i]) + wide(s[i + 1])
 }
 
 // The last 12 bits of the two bytes from byte i on; 0 where they are not both there.
