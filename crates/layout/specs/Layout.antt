@@ -1,5 +1,5 @@
 -- Which fields the tables lay out, one after another, by the numbers that stand there: the section's bits, or a sheet's numbers.
--- Nothing is refused here: where the numbers break a table, the fields are those of a table that they do not break.
+-- Nothing is refused here: where the numbers break a table, the fields go on as if they did not, and who asks has to refuse.
 -- Places and ends are counted in bits.
 -- Assumes nothing.
 use Prim.Native.Nat.{ℕ, zero, suc, _+_, _-_, _*_, _/_, _^_, _≤_}
@@ -41,6 +41,7 @@ pub record Plan : Type 0 where
 abbrev pub plan : Place → List ℕ → Plan
 plan p ws = record { at = p .at; number = p .number; widths = ws }
 
+-- how many bits fields of these widths have
 abbrev pub total : List ℕ → ℕ
 total [] = 0
 total (w ∷ ws) = w + total ws
@@ -60,6 +61,7 @@ laid ws π = cond (leb (π .number + length ws) (length (π .widths))) (advance 
 
 -- ---- what a table lays out
 
+-- the widths of a table's rows
 abbrev pub widthsOf : List Item → List ℕ
 widthsOf [] = []
 widthsOf (i ∷ rows) = widthOf i ∷ widthsOf rows
@@ -109,6 +111,7 @@ opening = fields (field 8 "splice_command_type" ∷ []) (under 8 sized-command (
 unfoldable pub left : List ℕ → List ℕ → Plan → ℕ
 left s x π = cond (eqb (length x) 0) (length s - 4 - π .at / 8) (length x - π .number)
 
+-- and a field for each of them
 unfoldable pub rest : List ℕ → List ℕ → Plan → Plan
 rest s x π = timesOn (left s x π) (laid (8 ∷ [])) π
 

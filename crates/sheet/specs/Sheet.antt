@@ -92,6 +92,7 @@ summed n m = writtenOf m (8 * (n - 4)) 32 (crc32 (take (n - 4) m))
 unfoldable pub sectionOf : List ℕ → List ℕ
 sectionOf x = cond (fitting x) (take (lengthFor x) (summed (lengthFor x) (filled x (lengthFor x) (planFor x .widths) (replicate (roomFor (lengthFor x) 256 4096) 0)))) []
 
+-- the verdict accepts
 unfoldable pub isAccepted : Verdict → Bool
 isAccepted Accepted = true
 isAccepted (Refused r) = false

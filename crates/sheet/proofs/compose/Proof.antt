@@ -1,10 +1,14 @@
 -- `sheet::compose` meets its contract: what each call ensures, put one into another.
 -- Assumes nothing.
-use mathlib.Core.Path.{sym}
+use mathlib.Core.Path.{_≡_, sym, ap, _∙_}
+use mathlib.Core.List.{List}
+use Prim.Native.Nat.{ℕ, _-_, _*_}
 use native.Mathlib.Omega.{arith}
+use lib.ListN.{length}
 use lib.Seq.{length-take-le}
 use borrow.Author.Needs.{needs}
-use Rattle.sheet.specs.Sheet.{filled, summed}
+use Rattle.bits.specs.Bits.{writtenOf, writeAll}
+use Rattle.sheet.specs.Sheet.{fieldsBetween, filled, summed}
 use Rattle.sheet.proofs.compose.Statement.{statement}
 use Rattle.sheet.proofs.compose.Tie as tie
 
@@ -53,12 +57,16 @@ returns c =
     let sum = c .before .before .before .before in
     let rest = sum .before .before .before .before in
     let size = rest .before .before .before .before in
-    let with-crc = c .before .before .write2 .ensures .1 in
-    let crc = sum .crc .ensures in
-    let with-rest = rest .write-fields2 .ensures in
-    let with-length = size .write .ensures .1 in
-    let with-first = size .before .before .before .before .write-fields .ensures in
-    cc
+    let first = size .before .before .before .before in
+    let a = first .before .before .before .before .before .args in
+    let fields : ℕ → ℕ → List (ℕ × ℕ) = λ i n. fieldsBetween i n (a .widths .now) (a .sheet .now) in
+    let whole : rest .write-fields2 .last .0 ≡ filled (a .sheet .now) (a .n) (a .widths .now) (a .memory .now) =
+    rest .write-fields2 .ensures
+    ∙ ap (λ (l : List ℕ). writeAll l 24 (fields 4 (length (a .sheet .now))))
+    (size .write .ensures .1 ∙ ap (λ (l : List ℕ). writtenOf l 12 12 (a .n - 3)) (first .write-fields .ensures)) in
+    c .before .before .write2 .ensures .1
+    ∙ ap (λ (v : ℕ). writtenOf (rest .write-fields2 .last .0) (8 * (a .n - 4)) 32 v) (sum .crc .ensures)
+    ∙ ap (summed (a .n)) whole
 
 pub compose-spec : {M : Type 1} → statement M
 compose-spec =
