@@ -13,13 +13,14 @@ use Rattle.bits.specs.Bits.{bit}
 use Rattle.grammar.specs.Syntax.{Item, done, fill}
 use Rattle.grammar.specs.Meaning.{Env, Reading, broken, reached, after, then, sweep, read, Outcome, ends, breach, endOf, run}
 use Rattle.grammar.specs.Tables.{avail-descriptor, dtmf-descriptor, delivery, segmentation-components, segmentation-end, segmentation-descriptor, time-descriptor, audio-descriptor, known-descriptor, splice-descriptor}
+use Rattle.grammar.specs.Traces.{traceOf}
 use Rattle.grammar.proofs.Ends.{sweep-over, sweep-more}
 use Rattle.descriptors.specs.declared.Cursor.{Cursor}
 use Rattle.descriptors.specs.declared.Kind.{Kind}
 use Rattle.descriptors.specs.declared.Step.{Step}
 use Rattle.descriptors.specs.declared.Step.the-variants.{Descriptor, Done, Broken}
 use Rattle.descriptors.specs.Walk.{stepOf}
-use Rattle.descriptors.specs.Loop.{onStep, walk, walked, traceOf, traceAt, tracesAt}
+use Rattle.descriptors.specs.Loop.{onStep, walk, walked, traceAt, tracesAt}
 use Rattle.descriptors.proofs.Walk.{stepped, stuck, at-end}
 use Rattle.grammar.proofs.Scope.{scoped, same-read}
 

@@ -3,9 +3,9 @@
 use Prim.Native.Nat.{ℕ, zero, suc, _-_, _*_}
 use mathlib.Core.List.{List, [], _∷_, _++_}
 use Rattle.bits.specs.Bits.{bit}
-use Rattle.grammar.specs.Syntax.{Item}
-use Rattle.grammar.specs.Meaning.{Reading, broken, reached, read}
+use Rattle.grammar.specs.Meaning.{read}
 use Rattle.grammar.specs.Tables.{splice-descriptor}
+use Rattle.grammar.specs.Traces.{Trace, traceOf}
 use Rattle.descriptors.specs.declared.Cursor.{Cursor}
 use Rattle.descriptors.specs.declared.Step.{Step}
 use Rattle.descriptors.specs.declared.Step.the-variants.{Descriptor, Done, Broken}
@@ -26,16 +26,11 @@ walk (suc n) s c = onStep (stepOf s c) c (walk n s)
 unfoldable pub walked : List ℕ → Cursor → List Cursor
 walked s c = walk (c .end - c .at) s c
 
--- what a reading read
-unfoldable pub traceOf : Reading → List (Item × ℕ)
-traceOf (broken n) = []
-traceOf (reached k t) = t
-
 -- what Table 17 reads at a cursor
-unfoldable pub traceAt : List ℕ → Cursor → List (Item × ℕ)
+unfoldable pub traceAt : List ℕ → Cursor → Trace
 traceAt s c = traceOf (read splice-descriptor [] (bit s) (8 * c .end) (8 * c .at))
 
 -- and at each of these, one after another
-unfoldable pub tracesAt : List ℕ → List Cursor → List (Item × ℕ)
+unfoldable pub tracesAt : List ℕ → List Cursor → Trace
 tracesAt s [] = []
 tracesAt s (c ∷ cs) = traceAt s c ++ tracesAt s cs

@@ -11,3 +11,6 @@ pub mod RoundTrip
 pub mod Reserved
 pub mod Octets
 pub mod Readings
+pub mod Each
+pub mod Telling
+pub mod Names

@@ -15,13 +15,13 @@ use Rattle.grammar.specs.Traces.{Trace}
 -- ---- the ways of putting readings together
 
 -- a reading and what comes after it: where the first ended, and what each read
-record Split (r : Reading) (g : ℕ → Reading) (j : ℕ) (t : Trace) : Type 0 where
-  mid : ℕ
-  left : Trace
-  right : Trace
-  came : r ≡ reached mid left
-  went : g mid ≡ reached j right
-  joined : t ≡ left ++ right
+pub record Split (r : Reading) (g : ℕ → Reading) (j : ℕ) (t : Trace) : Type 0 where
+  pub mid : ℕ
+  pub left : Trace
+  pub right : Trace
+  pub came : r ≡ reached mid left
+  pub went : g mid ≡ reached j right
+  pub joined : t ≡ left ++ right
 
 if-parts : (b : Bool) (r : Reading) {j : ℕ} {t : Trace} → cond b r (broken 0) ≡ reached j t → (b ≡ true) × (r ≡ reached j t)
 if-parts true r e = (refl, e)
@@ -35,7 +35,7 @@ after-parts u (reached k v) {j} {t} e =
     let trace : t ≡ u ++ v = cc in
     (v, ap (λ (i : ℕ). reached i v) place, trace)
 
-then-parts : (r : Reading) (g : ℕ → Reading) {j : ℕ} {t : Trace} → then r g ≡ reached j t → Split r g j t
+pub then-parts : (r : Reading) (g : ℕ → Reading) {j : ℕ} {t : Trace} → then r g ≡ reached j t → Split r g j t
 unfolding then
 then-parts (broken n) g e = let z : _≡_ {A = ℕ} 0 1 = cc in absurd (omega arith)
 then-parts (reached k u) g e =

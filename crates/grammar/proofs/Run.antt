@@ -33,7 +33,7 @@ end-cond : (t : Bool) (a b : Reading) → endOf (cond t a b) ≡ cond t (endOf a
 end-cond true a b = refl
 end-cond false a b = refl
 
-end-after : (t : List (Item × ℕ)) (r : Reading) → endOf (after t r) ≡ endOf r
+pub end-after : (t : List (Item × ℕ)) (r : Reading) → endOf (after t r) ≡ endOf r
 unfolding after endOf
 end-after t (broken n) = refl
 end-after t (reached k u) = refl
@@ -150,7 +150,7 @@ abbrev pub times : ℕ → (ℕ → Outcome) → ℕ → Outcome
 times zero g k = ends k
 times (suc n) g k = on (g k) (times n g)
 
-end-again : (n : ℕ) (g : ℕ → Reading) (k : ℕ) → endOf (again n g k) ≡ times n (λ j. endOf (g j)) k
+pub end-again : (n : ℕ) (g : ℕ → Reading) (k : ℕ) → endOf (again n g k) ≡ times n (λ j. endOf (g j)) k
 unfolding again endOf
 end-again zero g k = refl
 end-again (suc n) g k = end-then (g k) (again n g) ∙ on-same (endOf (g k)) (λ j. endOf (again n g j)) (times n (λ j. endOf (g j))) (end-again n g)

@@ -4,3 +4,4 @@ pub mod Tables
 pub mod Ended
 pub mod Traces
 pub mod Writing
+pub mod Names

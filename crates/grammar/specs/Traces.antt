@@ -5,11 +5,16 @@ use mathlib.Core.List.{List, [], _∷_}
 use Prim.Native.Nat.{ℕ, _+_}
 use Rattle.bits.specs.Bits.{num}
 use Rattle.grammar.specs.Syntax.{Item, field, reserved}
-use Rattle.grammar.specs.Meaning.{widthOf, width}
+use Rattle.grammar.specs.Meaning.{widthOf, width, Reading, broken, reached}
 
 -- the rows that were read or written, in order, with their values
 abbrev pub Trace : Type 0
 Trace = List (Item × ℕ)
+
+-- what a reading read; nothing, where a rule is broken
+unfoldable pub traceOf : Reading → Trace
+traceOf (broken n) = []
+traceOf (reached k t) = t
 
 -- its rows
 unfoldable pub rowsOf : Trace → List Item

@@ -11,9 +11,8 @@ use Rattle.bits.specs.Bits.{bit, num}
 use Rattle.grammar.specs.Syntax.{Item, field, reserved}
 use Rattle.grammar.specs.Meaning.{widthOf, values, reached, read}
 use Rattle.grammar.specs.Tables.{header, splice-info-section}
-use Rattle.grammar.specs.Traces.{Trace, rowsOf, size, numbers, spans}
+use Rattle.grammar.specs.Traces.{Trace, rowsOf, size, numbers, spans, traceOf}
 use Rattle.grammar.proofs.Ends.{covers, trace-spans, ends-within}
-use Rattle.descriptors.specs.Loop.{traceOf}
 use Rattle.layout.proofs.Shape.{Thin, thin-length, section-thin}
 use Rattle.layout.proofs.Planned.{Body, body-of}
 use Rattle.section.specs.declared.Verdict.the-variants.{Accepted}

@@ -13,8 +13,7 @@ use Rattle.units.specs.Refusals.{first}
 use Rattle.units.specs.Answers.{answer, memory}
 use Rattle.grammar.specs.Meaning.{read}
 use Rattle.grammar.specs.Tables.{splice-info-section}
-use Rattle.grammar.specs.Traces.{Trace, numbers}
-use Rattle.descriptors.specs.Loop.{traceOf}
+use Rattle.grammar.specs.Traces.{Trace, numbers, traceOf}
 use Rattle.layout.specs.Layout.{Plan, planOf}
 use Rattle.section.specs.declared.Verdict.{Verdict}
 use Rattle.section.specs.declared.Verdict.the-variants.{Accepted, Refused}
