@@ -6,10 +6,9 @@ use Prim.Native.Nat.{ℕ, _+_, _-_, _*_, _/_, _%_, _^_, _≤_, _<_}
 use native.Mathlib.Omega.{arith}
 use lib.ListN.{length, getD, take, drop, length-drop, List·getD-append}
 use lib.Seq.{length-take-le, getD-take, getD-drop, getD-append-add}
-use borrow.Author.Tests.{le-leb}
 use Rattle.bits.specs.Bits.{bit, num, fieldOf}
 use Rattle.bits.proofs.Num.{num-ext}
-use Rattle.bits.proofs.Within.{narrow, field-in}
+use Rattle.bits.proofs.Within.{field-there}
 
 -- ---- put together
 
@@ -43,5 +42,5 @@ pub field-in-part : (s : List ℕ) (n m k w : ℕ) → w ≤ 48 → k + w ≤ 8 
     → fieldOf (take m (drop n s)) k w ≡ num (bit s) (8 * n + k) w
 field-in-part s n m k w narrow-enough fits there =
     let size : length (take m (drop n s)) ≡ m = length-take-le m (drop n s) (omega (arith, length-drop n s)) in
-    field-in (take m (drop n s)) k w (narrow (take m (drop n s)) k w narrow-enough ∙ le-leb (k + w) (8 * length (take m (drop n s))) (omega arith))
+    field-there (take m (drop n s)) k w narrow-enough (omega arith)
     ∙ num-in-part s n m k w fits

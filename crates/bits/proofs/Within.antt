@@ -35,6 +35,10 @@ pub field-in : (s : List ℕ) (at w : ℕ) → within s at w ≡ true → fieldO
 unfolding fieldOf
 field-in s at w h = ap (λ (t : Bool). cond t (num (bit s) at w) 0) h
 
+-- a field that this library reads and that is all there
+pub field-there : (s : List ℕ) (at w : ℕ) → w ≤ 48 → at + w ≤ 8 * length s → fieldOf s at w ≡ num (bit s) at w
+field-there s at w h l = field-in s at w (narrow s at w h ∙ le-leb (at + w) (8 * length s) l)
+
 pub field-out : (s : List ℕ) (at w : ℕ) → within s at w ≡ false → fieldOf s at w ≡ 0
 unfolding fieldOf
 field-out s at w h = ap (λ (t : Bool). cond t (num (bit s) at w) 0) h

@@ -186,16 +186,16 @@ part-many n i is h l zero m f k x q = absurd (not-suc-le-zero q)
 part-many n i is h l (suc c) zero f k x q = (
   before n (many c (i ∷ is) f (k + width (i ∷ is)) ++ x),
   ap (part n 0) (append-assoc (values (i ∷ is) f k) (many c (i ∷ is) f (k + width (i ∷ is))) x)
-  ∙ here n (values (i ∷ is) f k) (many c (i ∷ is) f (k + width (i ∷ is)) ++ x) (h, each-values (other n) is f (k + widthOf i) l)
-  ∙ ap (λ (y : ℕ). values (i ∷ is) f y ++ before n (many c (i ∷ is) f (k + width (i ∷ is)) ++ x)) (omega arith),
+      ∙ here n (values (i ∷ is) f k) (many c (i ∷ is) f (k + width (i ∷ is)) ++ x) (h, each-values (other n) is f (k + widthOf i) l)
+      ∙ ap (λ (y : ℕ). values (i ∷ is) f y ++ before n (many c (i ∷ is) f (k + width (i ∷ is)) ++ x)) (omega arith),
 )
 part-many n i is h l (suc c) (suc m) f k x q =
     let more = part-many n i is h l c m f (k + width (i ∷ is)) x (omega arith) in (
       more .0,
       ap (part n (suc m)) (append-assoc (values (i ∷ is) f k) (many c (i ∷ is) f (k + width (i ∷ is))) x)
-      ∙ later n m (values (i ∷ is) f k) (many c (i ∷ is) f (k + width (i ∷ is)) ++ x) (h, each-values (other n) is f (k + widthOf i) l)
-      ∙ more .1
-      ∙ ap (λ (y : ℕ). values (i ∷ is) f y ++ more .0) (omega (arith, suc-mul m (width (i ∷ is)))),
+          ∙ later n m (values (i ∷ is) f k) (many c (i ∷ is) f (k + width (i ∷ is)) ++ x) (h, each-values (other n) is f (k + widthOf i) l)
+          ∙ more .1
+          ∙ ap (λ (y : ℕ). values (i ∷ is) f y ++ more .0) (omega (arith, suc-mul m (width (i ∷ is)))),
     )
 
 pub each-many : (q : Item → Bool) (is : List Item) (f : ℕ → ℕ) (c k : ℕ) → all q is ≡ true → Each q (many c is f k)

@@ -8,6 +8,7 @@ use Prim.Native.String.{String}
 use native.Mathlib.Nat.{suc-mul}
 use native.Mathlib.Omega.{arith}
 use lib.Dec.{leb, ltb}
+use borrow.Author.Tests.{leb-true}
 use Rattle.grammar.specs.Syntax.{Item, Test, Prog, field, done, fields, branch, call, repeat}
 use Rattle.grammar.specs.Meaning.{Env, valueOf, width, values, bind, holds, Reading, broken, reached, after, then, again, sweep, read}
 use Rattle.grammar.specs.Traces.{Trace, traceOf}
@@ -59,10 +60,12 @@ pub over : {P : ℕ → Trace → Type 0} {env : Env} {f : ℕ → ℕ} {end k :
 unfolding read
 over h = record { tells = gives h }
 
+-- rows, which are then all there
 pub rows : {P : ℕ → Trace → Type 0} {is : List Item} {p : Prog} {env : Env} {f : ℕ → ℕ} {end k : ℕ}
-    → Tells (λ j t. P j (values is f k ++ t)) p (bind is f k env) f end (k + width is) → Tells P (fields is p) env f end k
+    → (k + width is ≤ end → Tells (λ j t. P j (values is f k ++ t)) p (bind is f k env) f end (k + width is)) → Tells P (fields is p) env f end k
 unfolding read
-rows {is = is} {f = f} {end = end} {k = k} h = record { tells = when-gives (leb (k + width is) end) (λ m. after-tells (values is f k) (h .tells)) }
+rows {is = is} {f = f} {end = end} {k = k} h =
+    record { tells = when-gives (leb (k + width is) end) (λ m. after-tells (values is f k) (h (leb-true (k + width is) end m) .tells)) }
 
 -- the arm that the test picks, and then on
 pub arm : {P : ℕ → Trace → Type 0} {c : Test} {a b p : Prog} {env : Env} {f : ℕ → ℕ} {end k : ℕ} (v : Bool) → holds c env end k ≡ v
@@ -152,7 +155,7 @@ unfolding values
 one-byte {P} n env f end k g h = then-tells (whole .tells)
   where
     whole : Tells (λ i u. Gives (λ j t. P j (u ++ t)) (cond (ltb k i) (g i) (broken 0))) (fields (field 8 n ∷ []) done) env f end k
-    whole = rows (over (when-gives (ltb k (k + 8)) (λ q. h)))
+    whole = rows (λ m. over (when-gives (ltb k (k + 8)) (λ q. h)))
 
 bytes-give : {P : ℕ → Trace → Type 0} (n : String) (env : Env) (f : ℕ → ℕ) (end steps m k : ℕ) → end - k ≤ steps → k + 8 * m ≡ end
     → P end (many m (field 8 n ∷ []) f k) → Gives P (sweep steps (λ j. read (fields (field 8 n ∷ []) done) env f end j) end k)

@@ -9,11 +9,11 @@ use native.Mathlib.Nat.{add-zero}
 use native.Mathlib.Omega.{arith}
 use lib.ListN.{length, getD, set, take, drop, length-append, length-set, take-append-drop}
 use lib.Seq.{take-suc, take-set-le, drop-set-lt, getD-set-same, take-append-seam, length-take-le}
-use borrow.Author.Tests.{ne-eqb, lt-ltb, le-leb}
+use borrow.Author.Tests.{ne-eqb, lt-ltb}
 use Rattle.bits.specs.Bits.{bit, num, within, fieldOf, readAll}
 use Rattle.bits.proofs.Num.{num-lt}
 use Rattle.bits.proofs.Bytes.{bit-lt}
-use Rattle.bits.proofs.Within.{narrow, field-in}
+use Rattle.bits.proofs.Within.{field-there}
 use Rattle.grammar.specs.Meaning.{widthOf, values}
 use Rattle.grammar.specs.Traces.{Trace, rowsOf, size, numbers, spans}
 use Rattle.layout.specs.declared.Place.{Place}
@@ -46,10 +46,6 @@ put-between m i (w ∷ ws) h =
     ∙ append-assoc (take i m) (w ∷ []) (ws ++ drop (i + suc (length ws)) m)
 
 -- ---- fields that are there
-
--- a field within the bytes
-field-there : (s : List ℕ) (k w : ℕ) → w ≤ 48 → k + w ≤ 8 * length s → fieldOf s k w ≡ num (bit s) k w
-field-there s k w h l = field-in s k w (narrow s k w h ∙ le-leb (k + w) (8 * length s) l)
 
 -- what a trace says of the bytes is what reading its fields gives
 pub read-trace : (s : List ℕ) (k : ℕ) (t : Trace) → spans (bit s) k t → Thin t → k + size t ≤ 8 * length s → readAll s k (traceWidths t) ≡ numbers t

@@ -3,12 +3,11 @@
 use mathlib.Core.Path.{_≡_, sym, ap, ap₂, _∙_}
 use native.Mathlib.Omega.{arith}
 use lib.ListN.{length}
-use borrow.Author.Tests.{le-leb}
 use Prim.Native.Nat.{_+_, _*_, _%_, _≤_}
 use lib.ListN.{getD}
 use Rattle.bits.specs.Bits.{bit, num}
 use Rattle.bits.proofs.Bytes.{byte-field, byte-more}
-use Rattle.bits.proofs.Within.{narrow, past-end, field-in, field-out}
+use Rattle.bits.proofs.Within.{past-end, field-out, field-there}
 use borrow.Author.Needs.{needs}
 use Rattle.bits.proofs.pair.Statement.{statement}
 use Rattle.bits.proofs.pair.Tie as tie
@@ -55,7 +54,7 @@ returns-3 c =
     let whole : num (bit s) (8 * a .i) 16 ≡ num (bit s) (8 * a .i) 8 * 256 + getD s (a .i + 1) 0 % 256 = byte-more s (a .i) 1 in
     let inside : 8 * a .i + 16 ≤ 8 * length s = omega arith in
     omega (arith, c .wide2 .ensures .0, c .before .before .wide .ensures .0, first, whole, c .before .shared-slice-known3 .given (a .i + 1) .fits)
-    ∙ sym (field-in s (8 * a .i) 16 (narrow s (8 * a .i) 16 (omega arith) ∙ le-leb (8 * a .i + 16) (8 * length s) inside))
+    ∙ sym (field-there s (8 * a .i) 16 (omega arith) inside)
 
 pub pair-spec : {M : Type 1} → statement M
 pair-spec =

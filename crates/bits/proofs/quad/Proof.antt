@@ -3,9 +3,8 @@
 use mathlib.Core.Path.{_≡_, sym, ap, ap₂, _∙_}
 use native.Mathlib.Omega.{arith}
 use lib.ListN.{length}
-use borrow.Author.Tests.{le-leb}
 use Prim.Native.Nat.{_+_, _*_, _≤_}
-use Rattle.bits.proofs.Within.{narrow, past-end, field-in, field-out}
+use Rattle.bits.proofs.Within.{past-end, field-out, field-there}
 use borrow.Author.Needs.{needs}
 use Rattle.bits.proofs.quad.Statement.{statement}
 use Rattle.bits.proofs.quad.Tie as tie
@@ -31,7 +30,7 @@ returns-3 c =
     let a = c .before .before .before .before .args in
     let inside : 8 * a .i + 32 ≤ 8 * length (a .s .now) = omega arith in
     c .half .ensures .0
-    ∙ sym (field-in (a .s .now) (8 * a .i) 32 (narrow (a .s .now) (8 * a .i) 32 (omega arith) ∙ le-leb (8 * a .i + 32) (8 * length (a .s .now)) inside))
+    ∙ sym (field-there (a .s .now) (8 * a .i) 32 (omega arith) inside)
 
 pub quad-spec : {M : Type 1} → statement M
 quad-spec = tie.close (tie.spec returns sub-if2 returns-2 half-requires returns-3)

@@ -4,11 +4,10 @@ use mathlib.Core.Path.{_≡_, sym, _∙_}
 use Prim.Native.Nat.{_+_, _*_, _%_, _^_, _≤_, _<_}
 use native.Mathlib.Omega.{arith}
 use lib.ListN.{length, getD}
-use borrow.Author.Tests.{le-leb}
 use Rattle.bits.specs.Bits.{bit, num}
 use Rattle.bits.proofs.Num.{num-split, num-lt}
 use Rattle.bits.proofs.Bytes.{bit-lt, byte-field, byte-more}
-use Rattle.bits.proofs.Within.{narrow, past-end, field-in, field-out}
+use Rattle.bits.proofs.Within.{past-end, field-out, field-there}
 use borrow.Author.Needs.{needs}
 use Rattle.bits.proofs.twelve.Statement.{statement}
 use Rattle.bits.proofs.twelve.Tie as tie
@@ -67,7 +66,7 @@ returns-3 c =
       c .before .shared-slice-known3 .given (a .i) .fits,
       c .before .shared-slice-known3 .given (a .i + 1) .fits,
     )
-    ∙ sym (field-in s (8 * a .i + 4) 12 (narrow s (8 * a .i + 4) 12 (omega arith) ∙ le-leb (8 * a .i + 4 + 12) (8 * length s) inside))
+    ∙ sym (field-there s (8 * a .i + 4) 12 (omega arith) inside)
 
 pub twelve-spec : {M : Type 1} → statement M
 twelve-spec =

@@ -6,9 +6,9 @@ use mathlib.Core.List.{List}
 use Prim.Native.Nat.{ℕ, _+_, _-_, _*_, _≤_, _<_}
 use native.Mathlib.Omega.{arith}
 use lib.ListN.{length, getD}
-use borrow.Author.Tests.{lt-ltb, le-ltb, le-leb, eq-eqb, ne-eqb}
+use borrow.Author.Tests.{lt-ltb, le-ltb, eq-eqb, ne-eqb}
 use Rattle.bits.specs.Bits.{bit, num}
-use Rattle.bits.proofs.Within.{field-in, narrow}
+use Rattle.bits.proofs.Within.{field-there}
 use Rattle.grammar.specs.Syntax.{stop}
 use Rattle.grammar.specs.Meaning.{valueOf, run, breach, ends}
 use Rattle.grammar.specs.Tables.{sized-command, private-command, bytes}
@@ -40,7 +40,7 @@ given-length : (t : tie.After-twelve) → valueOf (known (t .before .before .bef
 unfolding known
 given-length t =
     let s = t .before .before .before .args .s .now in
-    sym (t .twelve .ensures ∙ field-in s 92 12 (narrow s 92 12 (omega arith) ∙ le-leb (92 + 12) (8 * length s) (omega arith)))
+    sym (t .twelve .ensures ∙ field-there s 92 12 (omega arith) (omega arith))
 
 -- where the part that the length gives ends
 part-end : (t : tie.After-twelve) → 8 * 14 + 8 * valueOf (known (t .before .before .before .args .s .now)) "splice_command_length" ≡ 8 * (14 + t .twelve .result)

@@ -5,8 +5,7 @@ use Prim.Native.Nat.{_+_, _*_}
 use native.Mathlib.Omega.{arith}
 use lib.ListN.{length}
 use borrow.Author.Needs.{needs}
-use borrow.Author.Tests.{le-leb}
-use Rattle.bits.proofs.Within.{narrow, field-in}
+use Rattle.bits.proofs.Within.{field-there}
 use Rattle.descriptors.proofs.identifier.Statement.{statement}
 use Rattle.descriptors.proofs.identifier.Tie as tie
 
@@ -17,7 +16,7 @@ returns : tie.Need-returns
 returns c =
     let a = c .before .before .args in
     let s = a .s .now in
-    c .quad .ensures ∙ field-in s (8 * a .at) 32 (narrow s (8 * a .at) 32 (omega arith) ∙ le-leb (8 * a .at + 32) (8 * length s) (omega arith))
+    c .quad .ensures ∙ field-there s (8 * a .at) 32 (omega arith) (omega arith)
 
 pub identifier-spec : {M : Type 1} → statement M
 identifier-spec = tie.close (tie.spec quad-requires returns)

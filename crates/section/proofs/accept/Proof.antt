@@ -7,10 +7,10 @@ use Prim.Native.Nat.{ℕ, _+_, _-_, _*_, _/_, _%_, _≤_, _<_}
 use native.Mathlib.Omega.{arith}
 use lib.ListN.{length, getD}
 use Rattle.bits.specs.Bits.{bit, num}
-use Rattle.bits.proofs.Within.{field-in, narrow}
+use Rattle.bits.proofs.Within.{field-there}
 use Rattle.grammar.specs.Meaning.{Env, valueOf, bind, run, ends, breach}
 use lib.Dec.{ltb, eqb}
-use borrow.Author.Tests.{lt-ltb, le-ltb, le-leb, ne-eqb}
+use borrow.Author.Tests.{lt-ltb, le-ltb, ne-eqb}
 use Rattle.bits.proofs.Bytes.{AreBytes}
 use Rattle.crc.specs.Crc.{crc32}
 use Rattle.units.proofs.Rows.{Row, miss, hit}
@@ -32,7 +32,7 @@ given-length : (t : tie.After-twelve) → the (t .before .before .before .before
 unfolding the
 given-length t =
     let s = t .before .before .before .before .before .before .before .args .s .now in
-    sym (t .twelve .ensures ∙ field-in s 12 12 (narrow s 12 12 (omega arith) ∙ le-leb (12 + 12) (8 * length s) (omega arith)))
+    sym (t .twelve .ensures ∙ field-there s 12 12 (omega arith) (omega arith))
 
 returns : tie.Need-returns
 unfolding verdict

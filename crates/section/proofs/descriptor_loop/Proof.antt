@@ -7,9 +7,8 @@ use Prim.Native.Nat.{ℕ, _+_, _-_, _*_, _/_, _%_, _≤_, _<_}
 use native.Mathlib.Omega.{arith}
 use lib.ListN.{length, getD}
 use Rattle.bits.specs.Bits.{bit, num}
-use Rattle.bits.proofs.Within.{field-in, narrow}
+use Rattle.bits.proofs.Within.{field-there}
 use Rattle.grammar.specs.Meaning.{Env, valueOf, bind, run, ends, breach}
-use borrow.Author.Tests.{le-leb}
 use Rattle.grammar.specs.Tables.{descriptor-loop}
 use Rattle.grammar.proofs.Run.{Runs, becomes, pass, short, ruled, framed-all, framed-off, frame-short, filled-last, swept-bytes, finished, at-place}
 use borrow.Author.Needs.{needs}
@@ -21,7 +20,7 @@ given-length : (t : tie.After-pair) → num (bit (t .before .before .before .arg
 given-length t =
     let a = t .before .before .before .args in
     let s = a .s .now in
-    sym (t .pair .ensures ∙ field-in s (8 * a .at) 16 (narrow s (8 * a .at) 16 (omega arith) ∙ le-leb (8 * a .at + 16) (8 * length s) (omega arith)))
+    sym (t .pair .ensures ∙ field-there s (8 * a .at) 16 (omega arith) (omega arith))
 
 after-length : (t : tie.After-pair) → 8 * t .before .before .before .args .at + 16 ≡ 8 * (t .before .before .before .args .at + 2)
 after-length t = omega arith

@@ -4,10 +4,9 @@ use mathlib.Core.Path.{_≡_, sym, ap, _∙_}
 use Prim.Native.Nat.{ℕ, _+_, _*_, _≤_}
 use native.Mathlib.Omega.{arith}
 use lib.ListN.{length}
-use borrow.Author.Tests.{le-leb}
 use Rattle.bits.specs.Bits.{bit, num}
 use Rattle.bits.proofs.Bytes.{AreBytes, num-room}
-use Rattle.bits.proofs.Within.{field-in, narrow}
+use Rattle.bits.proofs.Within.{field-there}
 use Rattle.grammar.specs.Meaning.{ends}
 use Rattle.grammar.specs.Ended.{outcome}
 use Rattle.commands.specs.Command.{commandEnd}
@@ -44,7 +43,7 @@ given-length t =
     let s = t .before .before .before .before .before .before .before .before .before .before .before .args .s .now in
     let k : ℕ = 8 * t .before .before .at .given .0 .0 in
     let l = inside (t .before .before) in
-    sym (t .pair .ensures ∙ field-in s k 16 (narrow s k 16 (omega arith) ∙ le-leb (k + 16) (8 * length s) (omega arith)))
+    sym (t .pair .ensures ∙ field-there s k 16 (omega arith) (omega arith))
 
 accept-requires : tie.Need-accept-requires
 accept-requires c κs = search needs

@@ -7,7 +7,6 @@ use Prim.Native.Nat.{ℕ, _+_, _-_, _*_, _/_, _%_, _≤_, _<_}
 use native.Mathlib.Omega.{arith}
 use lib.ListN.{length, getD}
 use Rattle.bits.specs.Bits.{bit, num}
-use Rattle.bits.proofs.Within.{field-in, narrow}
 use Rattle.grammar.specs.Meaning.{Env, valueOf, bind, run, ends, breach}
 use borrow.Author.Tests.{le-ltb}
 use Rattle.grammar.specs.Tables.{payload, sized-command, header}
