@@ -9,7 +9,7 @@ ghost use Rattle.grammar.specs.Tables.{bytes, private-command, splice-time, ava
 ghost use Rattle.grammar.specs.Syntax.{stop};
 ghost use Rattle.grammar.specs.Ended.{outcome};
 ghost use Rattle.grammar.proofs.Run.{Runs, times};
-ghost use Rattle.commands.specs.Command.{commandEnd, tableOf};
+ghost use Rattle.commands.specs.Command.{commandEnd, componentPlace, eventPlace, tableOf};
 use grammar::Ended;
 
 // The byte of the section at which its command ends; Broken where the command breaks its table or its length, or where
@@ -37,6 +37,39 @@ pub fn command_end(s: &[u8]) -> Ended
     } else {
         Ended::Broken
     }
+}
+
+// The byte at which component n of an insert starts, whose components stand from `at` up to `end`; Broken where one before
+// it breaks its table, or these bytes are not there.
+pub fn insert_component_at(
+    s: &[u8],
+    at: usize,
+    end: usize,
+    n: usize,
+    splice_immediate_flag: u8,
+) -> Ended
+    ensures { λ r. ⌜ outcome r ≡ componentPlace (now (s .entry)) at end n «splice_immediate_flag» ⌝ }
+{
+    if end < at {
+        return Ended::Broken;
+    }
+    if s.len() < end {
+        return Ended::Broken;
+    }
+    insert_components(s, at, end, n, splice_immediate_flag)
+}
+
+// The same for event n of a schedule.
+pub fn schedule_event_at(s: &[u8], at: usize, end: usize, n: usize) -> Ended
+    ensures { λ r. ⌜ outcome r ≡ eventPlace (now (s .entry)) at end n ⌝ }
+{
+    if end < at {
+        return Ended::Broken;
+    }
+    if s.len() < end {
+        return Ended::Broken;
+    }
+    schedule_events(s, at, end, n)
 }
 
 // The command's own table, by splice_command_type (Table 7). Private and unknown commands take all of a part whose length
@@ -244,8 +277,16 @@ fn splice_schedule(s: &[u8], at: usize, end: usize) -> Ended
     if end - at < 1 {
         return Ended::Broken;
     }
-    let mut next = at + 1;
-    let mut left = s[at] as usize;
+    schedule_events(s, at + 1, end, s[at] as usize)
+}
+
+// Table 9, the events.
+fn schedule_events(s: &[u8], at: usize, end: usize, count: usize) -> Ended
+    requires { ⌜ (at ≤ end) × (end ≤ length (now s)) ⌝ }
+    ensures { λ r. ⌜ ((env : Env) → times count (run schedule-event env (bit (now (s .entry))) (8 * end)) (8 * at) ≡ outcome r) ⌝ }
+{
+    let mut next = at;
+    let mut left = count;
     while 0 < left {
         let Ended::At(after) = schedule_event(s, next, end) else {
             return Ended::Broken;

@@ -1,0 +1,109 @@
+// The parts of a command, by the byte at which they stand.
+ghost use mathlib.Core.Path.{_≡_};
+ghost use Prim.Native.Nat.{_≤_};
+ghost use Rattle.command_reading.specs.Places.{flagAt, timeAt, breakAt, availsAt, insertTimeAt, insertModeAt, insertAt};
+use crate::answers::Avails;
+use crate::answers::BreakDuration;
+use crate::answers::Command;
+use crate::answers::Insert;
+use crate::answers::Mode;
+use crate::answers::SpliceTime;
+use units::EventId;
+use units::Ticks;
+
+// Whether the bit at place k is 1.
+fn flag(s: &[u8], k: usize) -> bool
+    ensures { λ r. ⌜ r ≡ flagAt (now (s .entry)) k ⌝ }
+{
+    bits::read(s, k, 1) == 1
+}
+
+// Table 14, from byte `at` on.
+fn splice_time(s: &[u8], at: usize) -> SpliceTime
+    requires { ⌜ at ≤ 4096 ⌝ }
+    ensures { λ r. ⌜ r ≡ timeAt (now (s .entry)) at ⌝ }
+{
+    if flag(s, 8 * at) {
+        SpliceTime::Given(Ticks(bits::read(s, 8 * at + 7, 33)))
+    } else {
+        SpliceTime::NotGiven
+    }
+}
+
+// Table 15, from byte `at` on.
+fn break_duration(s: &[u8], at: usize, duration_flag: bool) -> BreakDuration
+    requires { ⌜ at ≤ 4096 ⌝ }
+    ensures { λ r. ⌜ r ≡ breakAt (now (s .entry)) at «duration_flag» ⌝ }
+{
+    if duration_flag {
+        BreakDuration::Present {
+            auto_return: flag(s, 8 * at),
+            duration: Ticks(bits::read(s, 8 * at + 7, 33)),
+        }
+    } else {
+        BreakDuration::Absent
+    }
+}
+
+// Tables 9 and 10, the end of an event, which ends before byte `end`.
+fn avails(s: &[u8], end: usize, duration_flag: bool) -> Avails
+    requires { ⌜ (9 ≤ end) × (end ≤ 4096) ⌝ }
+    ensures { λ r. ⌜ r ≡ availsAt (now (s .entry)) end «duration_flag» ⌝ }
+{
+    let break_duration = break_duration(s, end - 9, duration_flag);
+    Avails {
+        break_duration,
+        unique_program_id: bits::pair(s, end - 4) as u16,
+        avail_num: bits::read(s, 8 * (end - 2), 8) as u8,
+        avails_expected: bits::read(s, 8 * (end - 1), 8) as u8,
+    }
+}
+
+// Table 10, the splice insert that stands from byte 14 up to `end`.
+fn insert(s: &[u8], end: usize) -> Command
+    requires { ⌜ (9 ≤ end) × (end ≤ 4096) ⌝ }
+    ensures { λ r. ⌜ r ≡ insertAt (now (s .entry)) end ⌝ }
+{
+    let splice_event_id = EventId(bits::quad(s, 14) as u32);
+    // splice_event_cancel_indicator
+    if flag(s, 144) {
+        return Command::CancelledInsert(splice_event_id);
+    }
+    let time = insert_time(s);
+    let mode = insert_mode(s);
+    let avails = avails(s, end, flag(s, 154));
+    Command::Insert(Insert {
+        splice_event_id,
+        out_of_network_indicator: flag(s, 152),
+        time,
+        mode,
+        avails,
+    })
+}
+
+// When the splice takes place: each component has a time of its own.
+fn insert_time(s: &[u8]) -> SpliceTime
+    ensures { λ r. ⌜ r ≡ insertTimeAt (now (s .entry)) ⌝ }
+{
+    // splice_immediate_flag
+    if flag(s, 155) {
+        return SpliceTime::Immediate;
+    }
+    // program_splice_flag
+    if flag(s, 153) {
+        splice_time(s, 20)
+    } else {
+        SpliceTime::NotGiven
+    }
+}
+
+fn insert_mode(s: &[u8]) -> Mode
+    ensures { λ r. ⌜ r ≡ insertModeAt (now (s .entry)) ⌝ }
+{
+    // program_splice_flag
+    if flag(s, 153) {
+        Mode::Program
+    } else {
+        Mode::Components(bits::read(s, 160, 8) as u8)
+    }
+}
