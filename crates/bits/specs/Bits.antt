@@ -5,7 +5,7 @@ use Prim.Native.Nat.{ℕ, zero, suc, _+_, _-_, _*_, _/_, _%_, _^_, _≤_, _<_}
 use mathlib.Core.Bool.{Bool, true, cond, _&&_}
 use mathlib.Core.List.{List, [], _∷_}
 use lib.ListN.{length, getD}
-use lib.Dec.{leb, ltb}
+use lib.Dec.{leb, ltb, eqb}
 
 -- bit k of the bytes s: bit 0 is the most significant bit of the first byte, and past the end every bit is 0
 unfoldable pub bit : List ℕ → ℕ → ℕ
@@ -23,6 +23,10 @@ within s at w = leb w 48 && leb (at + w) (8 * length s)
 -- the field of w bits at place `at`; 0 where it is wider than 48 bits or runs past the end
 unfoldable pub fieldOf : List ℕ → ℕ → ℕ → ℕ
 fieldOf s at w = cond (within s at w) (num (bit s) at w) 0
+
+-- the bit at place `at` is 1
+abbrev pub flagOf : List ℕ → ℕ → Bool
+flagOf s at = eqb (fieldOf s at 1) 1
 
 -- the bits of f, but for the w bits from `at` on, which are those of the number v
 unfoldable pub patched : (ℕ → ℕ) → ℕ → ℕ → ℕ → ℕ → ℕ

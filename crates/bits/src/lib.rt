@@ -4,7 +4,7 @@ ghost use mathlib.Core.Path.{_≡_};
 ghost use Prim.Native.Nat.{_+_, _*_, _/_, _^_, _≤_, _<_};
 ghost use mathlib.Core.Bool.{true};
 ghost use lib.ListN.{length, getD};
-ghost use Rattle.bits.specs.Bits.{bit, num, within, fieldOf, patched, writable, writtenOf, Scattered};
+ghost use Rattle.bits.specs.Bits.{bit, num, within, fieldOf, flagOf, patched, writable, writtenOf, Scattered};
 
 // The field of `width` bits at place `at`; 0 where it is wider than 48 bits or runs past the end.
 pub fn read(s: &[u8], at: usize, width: usize) -> u64
@@ -18,6 +18,23 @@ pub fn read(s: &[u8], at: usize, width: usize) -> u64
     } else {
         0
     }
+}
+
+// Whether the bit at place `at` is 1; false past the end.
+pub fn flag(s: &[u8], at: usize) -> bool
+    ensures { λ r. ⌜ r ≡ flagOf (now (s .entry)) at ⌝ }
+{
+    read(s, at, 1) == 1
+}
+
+// Byte i; 0 where it is not there.
+pub fn octet(s: &[u8], i: usize) -> u8
+    ensures { λ r. ⌜ r ≡ fieldOf (now (s .entry)) (8 * i) 8 ⌝ }
+{
+    if s.len() <= i {
+        return 0;
+    }
+    s[i]
 }
 
 // The 16 bits of the two bytes from byte i on; 0 where they are not both there.

@@ -1,0 +1,146 @@
+// The parts of a segmentation descriptor (Table 20), by the byte after its identifier.
+ghost use mathlib.Core.Path.{_≡_};
+ghost use Prim.Native.Nat.{_≤_};
+ghost use Rattle.descriptor_reading.specs.Places.{afterComponents, upidPlace, modeAt, deliveryAt, durationAt, subSegmentsAt, segmentationAt, componentsAt};
+use crate::answers::Delivery;
+use crate::answers::Descriptor;
+use crate::answers::Duration;
+use crate::answers::Mode;
+use crate::answers::Segmentation;
+use crate::answers::SubSegments;
+use units::EventId;
+use units::Ticks;
+
+// The descriptor, which ends before byte `end`.
+pub(crate) fn segmentation(s: &[u8], at: usize, end: usize) -> Descriptor
+    requires { ⌜ at ≤ 4096 ⌝ }
+    ensures { λ r. ⌜ r ≡ segmentationAt (now (s .entry)) at end ⌝ }
+{
+    let segmentation_event_id = EventId(bits::quad(s, at) as u32);
+    // segmentation_event_cancel_indicator
+    if bits::flag(s, 8 * (at + 4)) {
+        return Descriptor::CancelledSegmentation(segmentation_event_id);
+    }
+    let mode = mode(s, at);
+    let delivery = delivery(s, at);
+    let duration = duration(s, at);
+    let upid = upid_place(s, at);
+    let segmentation_upid_length = bits::octet(s, upid + 1);
+    let after = upid + 2 + (segmentation_upid_length as usize);
+    let segmentation_type_id = bits::octet(s, after);
+    let sub_segments = sub_segments(s, segmentation_type_id, after + 3, end);
+    Descriptor::Segmentation(Segmentation {
+        segmentation_event_id,
+        mode,
+        delivery,
+        duration,
+        segmentation_upid_type: bits::octet(s, upid),
+        segmentation_upid_length,
+        segmentation_type_id,
+        segment_num: bits::octet(s, after + 1),
+        segments_expected: bits::octet(s, after + 2),
+        sub_segments,
+    })
+}
+
+fn mode(s: &[u8], at: usize) -> Mode
+    requires { ⌜ at ≤ 4096 ⌝ }
+    ensures { λ r. ⌜ r ≡ modeAt (now (s .entry)) at ⌝ }
+{
+    // program_segmentation_flag
+    if bits::flag(s, 8 * (at + 5)) {
+        Mode::Program
+    } else {
+        Mode::Components(bits::octet(s, at + 6))
+    }
+}
+
+fn delivery(s: &[u8], at: usize) -> Delivery
+    requires { ⌜ at ≤ 4096 ⌝ }
+    ensures { λ r. ⌜ r ≡ deliveryAt (now (s .entry)) at ⌝ }
+{
+    let flags = 8 * (at + 5);
+    // delivery_not_restricted_flag
+    if bits::flag(s, flags + 2) {
+        return Delivery::NotRestricted;
+    }
+    Delivery::Restricted {
+        web_delivery_allowed_flag: bits::flag(s, flags + 3),
+        no_regional_blackout_flag: bits::flag(s, flags + 4),
+        archive_allowed_flag: bits::flag(s, flags + 5),
+        device_restrictions: bits::read(s, flags + 6, 2) as u8,
+    }
+}
+
+fn duration(s: &[u8], at: usize) -> Duration
+    requires { ⌜ at ≤ 4096 ⌝ }
+    ensures { λ r. ⌜ r ≡ durationAt (now (s .entry)) at ⌝ }
+{
+    // segmentation_duration_flag
+    if bits::flag(s, 8 * (at + 5) + 1) {
+        Duration::Present(Ticks(bits::read(s, 8 * after_components(s, at), 40)))
+    } else {
+        Duration::Absent
+    }
+}
+
+// The two bytes at `at`, where the type may have them and the descriptor does not end before.
+fn sub_segments(s: &[u8], segmentation_type_id: u8, at: usize, end: usize) -> SubSegments
+    requires { ⌜ at ≤ 16384 ⌝ }
+    ensures { λ r. ⌜ r ≡ subSegmentsAt (now (s .entry)) «segmentation_type_id» at end ⌝ }
+{
+    if !descriptors::is_sub_segmented(segmentation_type_id) {
+        return SubSegments::Absent;
+    }
+    if end <= at {
+        return SubSegments::Absent;
+    }
+    SubSegments::Present {
+        sub_segment_num: bits::octet(s, at),
+        sub_segments_expected: bits::octet(s, at + 1),
+    }
+}
+
+// Where the components end.
+fn after_components(s: &[u8], at: usize) -> usize
+    requires { ⌜ at ≤ 4096 ⌝ }
+    ensures { λ r. ⌜ r ≡ afterComponents (now (s .entry)) at ⌝ }
+{
+    // program_segmentation_flag
+    if bits::flag(s, 8 * (at + 5)) {
+        return at + 6;
+    }
+    let component_count = bits::octet(s, at + 6) as usize;
+    at + 7 + 6 * component_count
+}
+
+// Where the UPID's type stands.
+pub(crate) fn upid_place(s: &[u8], at: usize) -> usize
+    requires { ⌜ at ≤ 4096 ⌝ }
+    ensures { λ r. ⌜ r ≡ upidPlace (now (s .entry)) at ⌝ }
+{
+    let after = after_components(s, at);
+    // segmentation_duration_flag
+    if bits::flag(s, 8 * (at + 5) + 1) {
+        after + 5
+    } else {
+        after
+    }
+}
+
+// How many components there are.
+pub(crate) fn component_count(s: &[u8], at: usize) -> usize
+    requires { ⌜ at ≤ 4096 ⌝ }
+    ensures { λ r. ⌜ r ≡ componentsAt (now (s .entry)) at ⌝ }
+{
+    // segmentation_event_cancel_indicator
+    if bits::flag(s, 8 * (at + 4)) {
+        return 0;
+    }
+    // program_segmentation_flag
+    if bits::flag(s, 8 * (at + 5)) {
+        0
+    } else {
+        bits::octet(s, at + 6) as usize
+    }
+}
