@@ -15,13 +15,13 @@ use Rattle.command_reading.specs.declared.answers.PrivateByte.{PrivateByte}
 use Rattle.command_reading.specs.Command.{commandTrace, insertComponentOf, eventOf, eventComponentOf, privateByteOf}
 use Rattle.command_reading.specs.Command as Says
 use Rattle.descriptor_reading.specs.declared.answers.Descriptor.{Descriptor}
+use Rattle.descriptor_reading.specs.declared.answers.KnownCount.{KnownCount}
 use Rattle.descriptor_reading.specs.declared.answers.DtmfChar.{DtmfChar}
 use Rattle.descriptor_reading.specs.declared.answers.SegmentationComponent.{SegmentationComponent}
 use Rattle.descriptor_reading.specs.declared.answers.AudioComponent.{AudioComponent}
 use Rattle.descriptor_reading.specs.declared.answers.Upid.{Upid}
 use Rattle.descriptor_reading.specs.Descriptor.{knownCursors, knownTrace, descriptorOf, dtmfCharOf, segmentationComponentOf, audioComponentOf}
 use Rattle.descriptor_reading.specs.Descriptor as Says′
-use Rattle.reading.specs.declared.KnownCount.{KnownCount}
 
 -- the answer of an open section, with the cursor of its first descriptor, or the refusal of one that cannot be asked
 unfoldable pub asked : {A : Type 0} → Opened → (Refusal → A) → (Cursor → A) → A

@@ -10,16 +10,10 @@ use command_reading::PrivateByte;
 use descriptor_reading::AudioComponent;
 use descriptor_reading::Descriptor;
 use descriptor_reading::DtmfChar;
+use descriptor_reading::KnownCount;
 use descriptor_reading::SegmentationComponent;
 use descriptor_reading::Upid;
 use section::Opened;
-use units::Refusal;
-
-// How many known descriptors there are.
-pub enum KnownCount {
-    Count(usize),
-    Refused(Refusal),
-}
 
 // The command.
 pub fn command(section: &[u8]) -> Command
