@@ -1,10 +1,10 @@
 -- A typed answer as a flat list of numbers: where an answer or a part of it has cases, the number of the case and then its values;
 -- a value that is absent has no number.
 -- Assumes nothing.
-use Prim.Native.Nat.{ℕ}
+use Prim.Native.Nat.{ℕ, _+_}
 use mathlib.Core.Bool.{Bool, cond}
 use mathlib.Core.List.{List, [], _∷_, _++_}
-use lib.ListN.{length}
+use lib.ListN.{length, set}
 use lib.Dec.{ltb}
 use Rattle.units.specs.declared.refusals.Written.{Written}
 use Rattle.units.specs.Refusals.{numberOf, first, orElse}
@@ -57,6 +57,13 @@ given ns out = answer (givenRow ns out) (length (ns .list))
 -- what the memory then holds
 unfoldable pub givenInto : Numbers → List ℕ → List ℕ
 givenInto ns out = memory (givenRow ns out) (ns .list) out
+
+-- ---- for private functions
+
+-- a list with these numbers from place i on
+abbrev pub put : List ℕ → ℕ → List ℕ → List ℕ
+put m i [] = m
+put m i (n ∷ ns) = put (set m i n) (i + 1) ns
 
 -- ---- parts
 
