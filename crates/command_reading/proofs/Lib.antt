@@ -1,1 +1,5 @@
 pub mod Table
+pub mod Rows
+pub mod Times
+pub mod Avails
+pub mod Insert

@@ -88,7 +88,10 @@ pub enum Event {
 
 // A component of a schedule's event.
 pub enum EventComponent {
-    Component { component_tag: u8, utc_splice_time: u32 },
+    Component {
+        component_tag: u8,
+        utc_splice_time: u32,
+    },
     Refused(Refusal),
 }
 
