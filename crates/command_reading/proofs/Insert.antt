@@ -1,10 +1,10 @@
 -- What splice_insert() tells (Table 10): its values by their rows are its values by their places.
 -- Assumes nothing.
 use mathlib.Core.Path.{_≡_, refl, sym, ap, _∙_}
-use mathlib.Core.Bool.{Bool, true, false}
+use mathlib.Core.Bool.{true, false}
 use mathlib.Core.List.{List, [], _∷_, _++_}
 use mathlib.Core.Logic.{⊎-elim}
-use Prim.Native.Nat.{ℕ, _+_, _*_, _≤_}
+use Prim.Native.Nat.{ℕ, _*_, _≤_}
 use native.Mathlib.Omega.{arith}
 use lib.ListN.{length}
 use lib.Dec.{eqb}
@@ -16,7 +16,7 @@ use Rattle.grammar.specs.Traces.{Trace, traceOf}
 use Rattle.grammar.specs.Names.{look, isSet}
 use Rattle.grammar.proofs.Ends.{given}
 use Rattle.grammar.proofs.Each.{Each, every, each-append, read-each, repeat-each}
-use Rattle.grammar.proofs.Telling.{Tells, so, rows, arm, arm-last, sub, sub-last, some, loop, over}
+use Rattle.grammar.proofs.Telling.{Tells, so, rows, arm-last, sub, sub-last, some, loop, over}
 use Rattle.command_reading.specs.declared.answers.Mode.{Mode}
 use Rattle.command_reading.specs.declared.answers.Command.{Command}
 use Rattle.command_reading.specs.Command.{eventId, insertTime, modeOf, availsOf, insertOf}

@@ -3,3 +3,5 @@ pub mod Rows
 pub mod Times
 pub mod Avails
 pub mod Insert
+pub mod Private
+pub mod Said

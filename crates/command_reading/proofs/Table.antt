@@ -69,6 +69,7 @@ pub record Read (s : List ℕ) (j : ℕ) (t : Trace) : Type 0 where
   pub stop : ℕ
   pub long : 20 ≤ length s
   pub fits : length s ≤ 4096
+  pub starts : 112 ≤ stop
   pub inside : stop ≤ 8 * (length s - 4)
   pub octets : ℕ
   pub whole : stop ≡ 8 * octets
@@ -94,6 +95,7 @@ table-read s j t e = go (isOfSize s) refl e
           stop = 8 * (length s - 4);
           long = size .0;
           fits = size .1;
+          starts = omega arith;
           inside = omega arith;
           octets = length s - 4;
           whole = refl;
@@ -107,6 +109,7 @@ table-read s j t e = go (isOfSize s) refl e
           stop = 112 + 8 * valueOf (known s) "splice_command_length";
           long = size .0;
           fits = size .1;
+          starts = omega arith;
           inside = part .2;
           octets = 14 + valueOf (known s) "splice_command_length";
           whole = omega arith;
