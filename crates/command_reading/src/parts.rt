@@ -90,11 +90,10 @@ fn insert_time(s: &[u8]) -> SpliceTime
         return SpliceTime::Immediate;
     }
     // program_splice_flag
-    if flag(s, 153) {
-        splice_time(s, 20)
-    } else {
-        SpliceTime::NotGiven
+    if !flag(s, 153) {
+        return SpliceTime::NotGiven;
     }
+    splice_time(s, 20)
 }
 
 fn insert_mode(s: &[u8]) -> Mode

@@ -74,7 +74,7 @@ cast-t13 c = omega (arith, field-lt (section (c .before .before .before .before)
 sub-t14 : tie.Need-sub-t14
 sub-t14 c =
     let x = c .before .before .before .before in
-    private-rows (section x) (stop x) (trace x) (read-to x) (type-is (c .before .before) ∙ c .before .match2 .keys6) .long
+    omega (arith, private-rows (section x) (stop x) (trace x) (read-to x) (type-is (c .before .before) ∙ c .before .match2 .keys6) .long)
 
 returns-2 : tie.Need-returns-2
 returns-2 c =

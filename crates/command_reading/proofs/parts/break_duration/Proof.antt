@@ -1,6 +1,5 @@
 -- `command_reading::parts::break_duration` meets its contract.
 -- Assumes nothing.
-use mathlib.Core.Path.{refl}
 use Rattle.units.specs.Clock.{ticks}
 use Rattle.command_reading.specs.declared.answers.BreakDuration.{BreakDuration}
 use Rattle.command_reading.specs.Places.{breakAt}
@@ -29,7 +28,7 @@ returns c = rw (c .before .before .if1 .taken) (λ i. BreakDuration.Present (c .
 
 returns-2 : tie.Need-returns-2
 unfolding breakAt
-returns-2 c = rw (c .if1 .left) refl
+returns-2 c = rw (c .if1 .left)
 
 pub break-duration-spec : {M : Type 1} → statement M
 break-duration-spec =

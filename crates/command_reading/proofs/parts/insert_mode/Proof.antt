@@ -1,6 +1,6 @@
 -- `command_reading::parts::insert_mode` meets its contract.
 -- Assumes nothing.
-use mathlib.Core.Path.{refl, sym, _∙_}
+use mathlib.Core.Path.{sym, _∙_}
 use native.Mathlib.Omega.{arith}
 use Rattle.bits.proofs.Fields.{field-lt}
 use Rattle.command_reading.specs.declared.answers.Mode.{Mode}
@@ -18,7 +18,7 @@ cast-t5 : tie.Need-cast-t5
 cast-t5 c = omega (arith, field-lt (c .before .before .before .before .args .s .now) 160 8)
 
 returns : tie.Need-returns
-returns c = rw (sym (c .before .flag .ensures) ∙ c .if1 .taken) refl
+returns c = rw (sym (c .before .flag .ensures) ∙ c .if1 .taken)
 
 returns-2 : tie.Need-returns-2
 returns-2 c = rw (sym (c .before .before .flag .ensures) ∙ c .before .if1 .left) (λ i. Mode.Components (c .read .ensures i))

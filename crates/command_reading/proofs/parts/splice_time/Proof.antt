@@ -1,6 +1,6 @@
 -- `command_reading::parts::splice_time` meets its contract: the flag, and where it is 1 the time.
 -- Assumes nothing.
-use mathlib.Core.Path.{refl, sym, _∙_}
+use mathlib.Core.Path.{sym, _∙_}
 use Rattle.units.specs.Clock.{ticks}
 use Rattle.command_reading.specs.declared.answers.SpliceTime.{SpliceTime}
 use Rattle.command_reading.specs.Places.{timeAt}
@@ -30,7 +30,7 @@ returns c =
 
 returns-2 : tie.Need-returns-2
 unfolding timeAt
-returns-2 c = rw (sym (c .before .flag .ensures) ∙ c .if1 .left) refl
+returns-2 c = rw (sym (c .before .flag .ensures) ∙ c .if1 .left)
 
 pub splice-time-spec : {M : Type 1} → statement M
 splice-time-spec =
