@@ -89,7 +89,27 @@ module _ (s : List ℕ) (c : Cursor) where
   unfolding knownCursors
   too-long h = ap (λ (t : Bool). cond t (knownAmong s (walked s c)) []) (lt-leb (length s) 4096 h)
 
--- nothing is read where nothing stands
-pub nowhere-read : (s : List ℕ) → traceAt s nowhere ≡ []
-unfolding traceAt splice-descriptor read traceOf
-nowhere-read s = refl
+-- ---- by number
+
+module _ (s : List ℕ) (c : Cursor) (kind : Kind) (next : Cursor) (e : stepOf s c ≡ Step.Descriptor kind next) where
+  pub number-first : isKnown kind ≡ true → numbered (knownAmong s (walked s c)) 0 ≡ c
+  unfolding numbered
+  number-first h = ap (λ (cs : List Cursor). numbered cs 0) (known-first s c kind next e h)
+
+  pub number-later : isKnown kind ≡ true → (m : ℕ) → 0 < m → numbered (knownAmong s (walked s c)) m ≡ numbered (knownAmong s (walked s next)) (m - 1)
+  unfolding numbered
+  number-later h m l =
+      let one-more : m ≡ suc (m - 1) = omega arith in
+      ap (numbered (knownAmong s (walked s c))) one-more ∙ ap (λ (cs : List Cursor). numbered cs (suc (m - 1))) (known-first s c kind next e h)
+
+  pub number-passed : isKnown kind ≡ false → (m : ℕ) → numbered (knownAmong s (walked s c)) m ≡ numbered (knownAmong s (walked s next)) m
+  number-passed h m = ap (λ (cs : List Cursor). numbered cs m) (unknown-first s c kind next e h)
+
+pub number-none : (cs : List Cursor) (m : ℕ) → cs ≡ [] → numbered cs m ≡ nowhere
+unfolding numbered
+number-none cs m e = ap (λ (cs : List Cursor). numbered cs m) e
+
+-- nothing was read of a descriptor that is not there
+pub no-trace : (s : List ℕ) (c : Cursor) (n : ℕ) → numbered (knownCursors s c) n ≡ nowhere → knownTrace s c n ≡ []
+unfolding knownTrace traceAt splice-descriptor read traceOf
+no-trace s c n e = ap (traceAt s) e
