@@ -9,11 +9,11 @@ use lib.ListN.{length}
 use borrow.Author.Tests.{le-leb, lt-leb}
 use Rattle.grammar.specs.Meaning.{read}
 use Rattle.grammar.specs.Tables.{splice-descriptor}
-use Rattle.grammar.specs.Traces.{Trace, traceOf}
+use Rattle.grammar.specs.Traces.{traceOf}
 use Rattle.descriptors.specs.declared.Cursor.{Cursor}
 use Rattle.descriptors.specs.declared.Kind.{Kind}
 use Rattle.descriptors.specs.declared.Step.{Step}
-use Rattle.descriptors.specs.Walk.{kindOf, stepOf}
+use Rattle.descriptors.specs.Walk.{stepOf}
 use Rattle.descriptors.specs.Loop.{onStep, walk, walked, traceAt}
 use Rattle.descriptors.proofs.Walk.{nothing-left, stepped}
 use Rattle.descriptor_reading.specs.Descriptor.{isKnown, knownAmong, knownCursors, nowhere, numbered, knownTrace}
@@ -46,6 +46,10 @@ by-step : (s : List ℕ) (c : Cursor) (σ : Step) → stepOf s c ≡ σ → walk
 unfolding walked walk
 by-step s c σ e =
     steps (c .end - c .at) (suc (c .end - c .at)) s c (omega arith) (omega arith) ∙ ap (λ (σ : Step). onStep σ c (walk (c .end - c .at) s)) e
+
+-- a step leaves less of the loop
+pub less-left : (s : List ℕ) (c : Cursor) (kind : Kind) (next : Cursor) → stepOf s c ≡ Step.Descriptor kind next → next .end - next .at < c .end - c .at
+less-left s c kind next e = let on = stepped s c kind next e in omega (arith, on .further, on .inside, on .same-end)
 
 -- ---- the known ones among what is still to be walked
 

@@ -1,7 +1,7 @@
 -- Where a step finds a known descriptor, that descriptor stands: what Table 17 reads there is tag, length and identifier, and then
 -- what the table of its kind reads.
 -- Assumes nothing.
-use mathlib.Core.Path.{_≡_, refl, sym, ap, ap₂, subst, _∙_}
+use mathlib.Core.Path.{_≡_, refl, sym, ap, ap₂, _∙_}
 use mathlib.Core.Bool.{Bool, true, false, cond}
 use mathlib.Core.List.{List, [], _∷_, _++_}
 use Prim.Native.Nat.{ℕ, _+_, _*_, _≤_}
@@ -13,9 +13,8 @@ use Rattle.bits.proofs.Within.{field-there}
 use Rattle.grammar.specs.Syntax.{Test, Prog, field, is, done, branch}
 use Rattle.grammar.specs.Meaning.{Env, valueOf, values, bind, holds, Reading, broken, reached, read, endOf, ends, run}
 use Rattle.grammar.specs.Tables.{bytes, known-descriptor, splice-descriptor}
-use Rattle.grammar.specs.Traces.{Trace, traceOf, size}
+use Rattle.grammar.specs.Traces.{Trace, traceOf}
 use Rattle.grammar.proofs.Ends.{covers}
-use Rattle.grammar.proofs.Traces.{size-values, size-append}
 use Rattle.grammar.proofs.Readings.{Reads, rows-parts, arm-parts, frame-parts}
 use Rattle.descriptors.specs.declared.Cursor.{Cursor}
 use Rattle.descriptors.specs.declared.Kind.{Kind}
@@ -81,7 +80,7 @@ stands-read s at end stop t fits inside known q =
     let second : 8 * at + 8 ≡ 8 * (at + 1) = omega arith in
     let third : 8 * at + 16 ≡ 8 * (at + 2) = omega arith in
     let body : 8 * at + 16 + 32 ≡ 8 * (at + 6) = omega arith in
-    let size : num (bit s) (8 * at + 8) 8 ≡ fieldOf s (8 * (at + 1)) 8 =
+    let long : num (bit s) (8 * at + 8) 8 ≡ fieldOf s (8 * (at + 1)) 8 =
     ap (λ (k : ℕ). num (bit s) k 8) second ∙ sym (field-there s (8 * (at + 1)) 8 (omega arith) (omega arith)) in
     let env : Env =
     bind (field 32 "identifier" ∷ []) (bit s) (8 * at + 16) (bind (field 8 "splice_descriptor_tag" ∷ field 8 "descriptor_length" ∷ []) (bit s) (8 * at) []) in

@@ -2,7 +2,7 @@
 -- still to be walked, are all.
 -- Assumes nothing.
 use mathlib.Core.Path.{_≡_, sym, ap, _∙_}
-use Prim.Native.Nat.{_+_, _-_, _≤_, _<_}
+use Prim.Native.Nat.{_+_, _-_, _≤_}
 use native.Mathlib.Omega.{arith}
 use lib.ListN.{length}
 use borrow.Author.Needs.{needs}
@@ -11,28 +11,22 @@ use Rattle.descriptors.specs.Walk.{stepOf}
 use Rattle.descriptors.specs.Loop.{walked}
 use Rattle.descriptors.proofs.Walk.{stepped}
 use Rattle.descriptor_reading.specs.Descriptor.{knownAmong, knownCursors}
-use Rattle.descriptor_reading.proofs.Known.{known-first, unknown-first, none-left, none-whole, in-section, too-long}
+use Rattle.descriptor_reading.proofs.Known.{less-left, known-first, unknown-first, none-left, none-whole, in-section, too-long}
 use Rattle.descriptor_reading.proofs.walk.count.Statement.{statement}
 use Rattle.descriptor_reading.proofs.walk.count.Tie as tie
 
 abbrev Inv-loop : tie.InvT-loop
-Inv-loop s place₀ found₀ place found =
-    (length s ≤ 4096) × (found ≤ place .at) × (found + length (knownAmong s (walked s place)) ≡ length (knownCursors s place₀))
+Inv-loop s rest₀ found₀ rest found =
+    (length s ≤ 4096) × (found ≤ rest .at) × (found + length (knownAmong s (walked s rest)) ≡ length (knownCursors s rest₀))
 
 abbrev μ-loop : tie.MeasureT-loop
-μ-loop s place₀ found₀ place found = place .end - place .at
+μ-loop s rest₀ found₀ rest found = rest .end - rest .at
 
--- a step that finds a descriptor
+-- the step, where it finds a descriptor
 step-is : (c : tie.After-is-known Inv-loop μ-loop)
-    → stepOf (c .before .before .before .before .before .before .before .before .args .s .now) (c .before .before .before .before .before .loop .place)
+    → stepOf (c .before .before .before .before .before .before .before .before .args .s .now) (c .before .before .before .before .before .loop .rest)
     ≡ Step.Descriptor (c .before .before .kind .given .0 .0) (c .before .before .kind .given .0 .1 .0)
 step-is c = sym (c .before .before .before .before .step .ensures) ∙ c .before .before .kind .given .1
-
--- leaves less of the loop
-goes-on : (c : tie.After-is-known Inv-loop μ-loop)
-    → c .before .before .kind .given .0 .1 .0 .end - c .before .before .kind .given .0 .1 .0 .at
-    < c .before .before .before .before .before .loop .place .end - c .before .before .before .before .before .loop .place .at
-goes-on c = let on = stepped _ _ _ _ (step-is c) in omega (arith, on .further, on .inside, on .same-end)
 
 returns : tie.Need-returns Inv-loop μ-loop
 returns c = let a = c .before .before .args in sym (ap length (too-long (a .s .now) (a .cursor) (omega arith)))
@@ -59,7 +53,7 @@ add-found c =
     omega (arith, on .within, on .further, on .inside, l .inv .0, l .inv .1)
 
 loop-less : tie.Need-loop-less Inv-loop μ-loop
-loop-less c = goes-on (c .before)
+loop-less c = less-left _ _ _ _ (step-is (c .before))
 
 loop-again : tie.Need-loop-again Inv-loop μ-loop
 loop-again c =
@@ -68,11 +62,11 @@ loop-again c =
     let l = k .before .before .before .before .before in
     let s = l .before .before .before .args .s .now in
     let on = stepped _ _ _ _ (step-is k) in
-    let one-more = ap length (known-first s (l .loop .place) (kind .0) (kind .1 .0) (step-is k) (sym (k .is-known .ensures) ∙ c .if2 .taken)) in
+    let one-more = ap length (known-first s (l .loop .rest) (kind .0) (kind .1 .0) (step-is k) (sym (k .is-known .ensures) ∙ c .if2 .taken)) in
     (l .loop .inv .0, omega (arith, on .further, l .loop .inv .1), omega (arith, one-more, l .loop .inv .2))
 
 loop-less-2 : tie.Need-loop-less-2 Inv-loop μ-loop
-loop-less-2 c = goes-on (c .before)
+loop-less-2 c = less-left _ _ _ _ (step-is (c .before))
 
 loop-again-2 : tie.Need-loop-again-2 Inv-loop μ-loop
 loop-again-2 c =
@@ -81,7 +75,7 @@ loop-again-2 c =
     let l = k .before .before .before .before .before in
     let s = l .before .before .before .args .s .now in
     let on = stepped _ _ _ _ (step-is k) in
-    let as-many = ap length (unknown-first s (l .loop .place) (kind .0) (kind .1 .0) (step-is k) (sym (k .is-known .ensures) ∙ c .if2 .left)) in
+    let as-many = ap length (unknown-first s (l .loop .rest) (kind .0) (kind .1 .0) (step-is k) (sym (k .is-known .ensures) ∙ c .if2 .left)) in
     (l .loop .inv .0, omega (arith, on .further, l .loop .inv .1), omega (arith, as-many, l .loop .inv .2))
 
 enum-told : tie.Need-enum-told Inv-loop μ-loop
@@ -91,7 +85,7 @@ returns-2 : tie.Need-returns-2 Inv-loop μ-loop
 returns-2 c =
     let l = c .before .before .before in
     let s = l .before .before .before .args .s .now in
-    let none = ap length (none-left s (l .loop .place) (sym (c .before .before .step .ensures) ∙ c .enum-told .given .1)) in
+    let none = ap length (none-left s (l .loop .rest) (sym (c .before .before .step .ensures) ∙ c .enum-told .given .1)) in
     omega (arith, none, l .loop .inv .2)
 
 enum-told-2 : tie.Need-enum-told-2 Inv-loop μ-loop
@@ -101,7 +95,7 @@ returns-3 : tie.Need-returns-3 Inv-loop μ-loop
 returns-3 c =
     let l = c .before .before .before in
     let s = l .before .before .before .args .s .now in
-    let none = ap length (none-whole s (l .loop .place) (sym (c .before .before .step .ensures) ∙ c .enum-told2 .given .1)) in
+    let none = ap length (none-whole s (l .loop .rest) (sym (c .before .before .step .ensures) ∙ c .enum-told2 .given .1)) in
     omega (arith, none, l .loop .inv .2)
 
 pub count-spec : {M : Type 1} → statement M

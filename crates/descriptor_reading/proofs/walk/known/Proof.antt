@@ -1,9 +1,9 @@
 -- `descriptor_reading::walk::known` meets its contract. The loop's invariant: the known descriptor that is asked for has the number
 -- `left` among those that are still to be walked.
 -- Assumes nothing.
-use mathlib.Core.Path.{_≡_, refl, sym, ap, _∙_, subst}
+use mathlib.Core.Path.{_≡_, sym, ap, _∙_, subst}
 use mathlib.Core.List.{List}
-use Prim.Native.Nat.{_-_, _≤_, _<_}
+use Prim.Native.Nat.{_-_, _≤_}
 use native.Mathlib.Omega.{arith}
 use lib.ListN.{length}
 use borrow.Author.Needs.{needs}
@@ -11,11 +11,10 @@ use Rattle.descriptors.specs.declared.Cursor.{Cursor}
 use Rattle.descriptors.specs.declared.Step.{Step}
 use Rattle.descriptors.specs.Walk.{stepOf}
 use Rattle.descriptors.specs.Loop.{walked, traceAt}
-use Rattle.descriptors.proofs.Walk.{stepped}
 use Rattle.descriptor_reading.specs.Descriptor.{knownAmong, knownCursors, numbered, knownTrace}
 use Rattle.descriptor_reading.specs.Places.{Stands}
 use Rattle.descriptor_reading.proofs.Stands.{stands}
-use Rattle.descriptor_reading.proofs.Known.{none-left, none-whole, in-section, too-long, number-first, number-later, number-passed, number-none, no-trace}
+use Rattle.descriptor_reading.proofs.Known.{less-left, none-left, none-whole, in-section, too-long, number-first, number-later, number-passed, number-none, no-trace}
 use Rattle.descriptor_reading.proofs.walk.known.Statement.{statement}
 use Rattle.descriptor_reading.proofs.walk.known.Tie as tie
 
@@ -25,17 +24,11 @@ Inv-loop s n place₀ left₀ place left = (length s ≤ 4096) × (numbered (kno
 abbrev μ-loop : tie.MeasureT-loop
 μ-loop s n place₀ left₀ place left = place .end - place .at
 
--- a step that finds a descriptor
+-- the step, where it finds a descriptor
 step-is : (c : tie.After-is-known Inv-loop μ-loop)
     → stepOf (c .before .before .before .before .before .before .before .before .args .s .now) (c .before .before .before .before .before .loop .place)
     ≡ Step.Descriptor (c .before .before .kind .given .0 .0) (c .before .before .kind .given .0 .1 .0)
 step-is c = sym (c .before .before .before .before .step .ensures) ∙ c .before .before .kind .given .1
-
--- leaves less of the loop
-goes-on : (c : tie.After-is-known Inv-loop μ-loop)
-    → c .before .before .kind .given .0 .1 .0 .end - c .before .before .kind .given .0 .1 .0 .at
-    < c .before .before .before .before .before .loop .place .end - c .before .before .before .before .before .loop .place .at
-goes-on c = let on = stepped _ _ _ _ (step-is c) in omega (arith, on .further, on .inside, on .same-end)
 
 returns : tie.Need-returns Inv-loop μ-loop
 returns c =
@@ -76,7 +69,7 @@ sub-left : tie.Need-sub-left Inv-loop μ-loop
 sub-left c = search needs
 
 loop-less : tie.Need-loop-less Inv-loop μ-loop
-loop-less c = goes-on (c .before .before)
+loop-less c = less-left _ _ _ _ (step-is (c .before .before))
 
 loop-again : tie.Need-loop-again Inv-loop μ-loop
 loop-again c =
@@ -90,7 +83,7 @@ loop-again c =
     )
 
 loop-less-2 : tie.Need-loop-less-2 Inv-loop μ-loop
-loop-less-2 c = goes-on (c .before)
+loop-less-2 c = less-left _ _ _ _ (step-is (c .before))
 
 loop-again-2 : tie.Need-loop-again-2 Inv-loop μ-loop
 loop-again-2 c =
