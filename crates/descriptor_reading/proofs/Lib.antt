@@ -1,3 +1,5 @@
 pub mod Room
-pub mod Segmentation
+pub mod Rows
+pub mod SegmentationNames
 pub mod SegmentationRows
+pub mod SegmentationTold

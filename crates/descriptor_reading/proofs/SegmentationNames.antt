@@ -1,79 +1,38 @@
--- What the rows of a segmentation descriptor say under their names is what stands at their places.
+-- The rows of a segmentation descriptor by their names: the value of each is that of the field at its place.
 -- Assumes nothing.
-use mathlib.Core.Path.{_≡_, refl, sym, ap, ap₂, _∙_, subst}
-use mathlib.Core.Bool.{Bool, true, false, cond, not, _&&_, false≢true}
+use mathlib.Core.Path.{_≡_, refl, ap, ap₂, _∙_}
+use mathlib.Core.Bool.{Bool, true, false, cond, not}
 use mathlib.Core.List.{List, [], _∷_, _++_, append-nil, append-assoc}
-use mathlib.Core.Logic.{⊎-elim}
-use Prim.Native.Nat.{ℕ, zero, suc, _+_, _*_, _≤_, _<_}
-use native.Mathlib.Nat.{suc-mul, not-suc-le-zero}
+use Prim.Native.Nat.{ℕ, _+_, _*_, _≤_, _<_}
 use native.Mathlib.Omega.{arith}
-use lib.ListN.{length, getD, take, drop, length-drop}
-use lib.Seq.{length-take-le, getD-take, getD-drop, ext-getD}
+use lib.ListN.{length}
 use lib.Dec.{ltb}
 use Rattle.bits.specs.Bits.{bit, num, fieldOf, flagOf}
-use Rattle.bits.proofs.Cases.{by-cases, and-left, and-right, cond-same}
-use Rattle.bits.proofs.Bytes.{AreBytes, byte-field}
+use Rattle.bits.proofs.Cases.{cond-same}
 use Rattle.units.specs.Clock.{ticks}
 use Rattle.grammar.specs.Syntax.{Item, field, reserved}
-use Rattle.grammar.specs.Meaning.{Env, width, values, reached, read}
-use Rattle.grammar.specs.Tables.{segmentation-descriptor}
+use Rattle.grammar.specs.Meaning.{values}
 use Rattle.grammar.specs.Traces.{Trace, rowsOf, size}
-use Rattle.grammar.specs.Names.{Name, isNamed, look, isSet, allOf, part}
-use Rattle.grammar.proofs.Ends.{given}
+use Rattle.grammar.specs.Names.{Name, look, isSet, allOf, part}
 use Rattle.grammar.proofs.Each.{all, Each, each-append, each-values}
-use Rattle.grammar.proofs.Traces.{size-values, size-append}
+use Rattle.grammar.proofs.Traces.{size-append}
 use Rattle.grammar.proofs.Telling.{many}
-use Rattle.grammar.proofs.Names.{other, look-past, look-none, all-past, all-none, part-past, part-many, each-many, fieldsFrom, all-many, fields-length, fields-at}
+use Rattle.grammar.proofs.Names.{other, look-past, look-none, all-past, all-none, part-past, part-many, each-many, fieldsFrom, all-many}
 use Rattle.descriptor_reading.specs.declared.answers.Mode.{Mode}
 use Rattle.descriptor_reading.specs.declared.answers.Delivery.{Delivery}
 use Rattle.descriptor_reading.specs.declared.answers.Duration.{Duration}
 use Rattle.descriptor_reading.specs.declared.answers.SubSegments.{SubSegments}
-use Rattle.descriptor_reading.specs.declared.answers.Descriptor.{Descriptor}
-use Rattle.descriptor_reading.specs.Descriptor.{eventId, modeOf, deliveryOf, durationOf, subSegmentsOf, segmentationOf, through}
-use Rattle.descriptor_reading.specs.Places.{afterComponents, upidPlace, afterUpid, modeAt, deliveryAt, durationAt, subSegmentsAt, segmentationAt, componentsAt}
+use Rattle.descriptor_reading.specs.Descriptor.{modeOf, deliveryOf, durationOf, subSegmentsOf, through}
+use Rattle.descriptor_reading.specs.Places.{afterComponents, upidPlace, afterUpid, modeAt, deliveryAt, durationAt, subSegmentsAt}
 use Rattle.descriptor_reading.proofs.SegmentationRows as table
-use Rattle.descriptor_reading.proofs.SegmentationRows.{there, flag-set, deliveryRows, componentRows, durationRows, wholeRows, hasSubNumbers, endRows, Whole, cancelled, whole}
+use Rattle.descriptor_reading.proofs.SegmentationRows.{there, flag-set, deliveryRows, componentRows, durationRows, wholeRows, hasSubNumbers, endRows, cancelled}
+use Rattle.descriptor_reading.proofs.Rows.{both, each-rows, each-cond, through-past, size-many}
 
 -- the rows before the body of a descriptor that stands at byte `at`, and the body
 abbrev pub headed : List ℕ → ℕ → Trace → Trace
 headed s at body =
     values (field 8 "splice_descriptor_tag" ∷ field 8 "descriptor_length" ∷ []) (bit s) (8 * at)
     ++ (values (field 32 "identifier" ∷ []) (bit s) (8 * at + 16) ++ body)
-
--- ---- rows of other names
-
--- both of two lists of rows pass
-both : (q : Item → Bool) (a b : List Item) → all q (a ++ b) ≡ true → (all q a ≡ true) × (all q b ≡ true)
-both q [] b h = (refl, h)
-both q (i ∷ a) b h =
-    let rest = both q a b (and-right (q i) (all q (a ++ b)) h) in
-    (ap₂ _&&_ (and-left (q i) (all q (a ++ b)) h) (rest .0), rest .1)
-
-each-rows : (q : Item → Bool) (t : Trace) → all q (rowsOf t) ≡ true → Each q t
-unfolding rowsOf
-each-rows q [] h = tt
-each-rows q (x ∷ t) h = (and-left (q (x .0)) (all q (rowsOf t)) h, each-rows q t (and-right (q (x .0)) (all q (rowsOf t)) h))
-
-each-cond : (q : Item → Bool) (b : Bool) (t u : Trace) → Each q t → Each q u → Each q (cond b t u)
-each-cond q true t u h l = h
-each-cond q false t u h l = l
-
-through-past : (n : Name) (u v : Trace) → Each (other n) u → through n (u ++ v) ≡ u ++ through n v
-unfolding through
-through-past n [] v h = refl
-through-past n (x ∷ u) v h = go (isNamed n (x .0)) (h .0) (through-past n u v (h .1))
-  where
-    go : (b : Bool) → not b ≡ true → through n (u ++ v) ≡ u ++ through n v → cond b (x ∷ []) (x ∷ through n (u ++ v)) ≡ x ∷ (u ++ through n v)
-    go true e l = absurd (false≢true e)
-    go false e l = ap (λ (t : Trace). x ∷ t) l
-
-size-many : (c : ℕ) (is : List Item) (f : ℕ → ℕ) (k : ℕ) → size (many c is f k) ≡ c * width is
-unfolding many rowsOf
-size-many zero is f k = omega arith
-size-many (suc c) is f k =
-    size-append (values is f k) (many c is f (k + width is))
-    ∙ ap₂ _+_ (size-values is f k) (size-many c is f (k + width is))
-    ∙ omega (arith, suc-mul c (width is))
 
 -- ---- the rows of a descriptor that is not cancelled
 
@@ -184,12 +143,12 @@ module _ (s : List ℕ) (at : ℕ) where
 -- ---- the values under their names
 
 module _ (s : List ℕ) (at : ℕ) where
-  id-there : (w : Trace) → at + 11 ≤ length s
+  pub id-there : (w : Trace) → at + 11 ≤ length s
       → look (headed s at (values table.event (bit s) (8 * (at + 6)) ++ w)) "segmentation_event_id" ≡ fieldOf s (8 * (at + 6)) 32
   unfolding look values
   id-there w h = there s (8 * (at + 6)) (8 * (at + 6)) 32 refl (omega arith) (omega arith)
 
-  cancel-there : (w : Trace) → at + 11 ≤ length s
+  pub cancel-there : (w : Trace) → at + 11 ≤ length s
       → isSet (headed s at (values table.event (bit s) (8 * (at + 6)) ++ w)) "segmentation_event_cancel_indicator" ≡ flagOf s (8 * (at + 6 + 4))
   unfolding look values
   cancel-there w h = flag-set s (8 * (at + 6) + 32) (8 * (at + 6 + 4)) (omega arith) (omega arith)
@@ -199,14 +158,14 @@ module _ (s : List ℕ) (at : ℕ) where
     abbrev t : Trace
     t = headed s at (wholeRows s (at + 6) w)
 
-    low : at + 12 ≤ length s
+    pub low : at + 12 ≤ length s
     low = omega (arith, components-size s at, duration-size s at)
 
     -- a name that only the UPID and what follows it have
-    to-end : (n : Name) → all (other n) headItems ≡ true → all (other n) moreItems ≡ true → look t n ≡ look w n
+    pub to-end : (n : Name) → all (other n) headItems ≡ true → all (other n) moreItems ≡ true → look t n ≡ look w n
     to-end n h l = ap (λ (u : Trace). look u n) (opened-on s at w) ∙ look-past n (opened s at) w (opened-each s at n h l)
 
-    all-to-end : (n : Name) → all (other n) headItems ≡ true → all (other n) moreItems ≡ true → allOf t n ≡ allOf w n
+    pub all-to-end : (n : Name) → all (other n) headItems ≡ true → all (other n) moreItems ≡ true → allOf t n ≡ allOf w n
     all-to-end n h l = ap (λ (u : Trace). allOf u n) (opened-on s at w) ∙ all-past n (opened s at) w (opened-each s at n h l)
 
     program-told : isSet t "program_segmentation_flag" ≡ flagOf s (8 * (at + 6 + 5))
@@ -230,7 +189,7 @@ module _ (s : List ℕ) (at : ℕ) where
         ∙ look-past n (deliveryRows s (at + 6)) _ (delivery-each s at n l)
 
     -- where components and a duration are there, they stand in the bytes
-    listed : flagOf s (8 * (at + 6 + 5)) ≡ false → at + 13 + 6 * fieldOf s (8 * (at + 6 + 6)) 8 ≤ length s
+    pub listed : flagOf s (8 * (at + 6 + 5)) ≡ false → at + 13 + 6 * fieldOf s (8 * (at + 6 + 6)) 8 ≤ length s
     listed e =
         let n : ℕ = fieldOf s (8 * (at + 6 + 6)) 8 in
         let ends : afterComponents s (at + 6) ≡ at + 6 + 7 + 6 * n = ap (λ (v : Bool). cond v (at + 6 + 6) (at + 6 + 7 + 6 * n)) e in
@@ -243,34 +202,39 @@ module _ (s : List ℕ) (at : ℕ) where
         let ends : upidPlace s (at + 6) ≡ n + 5 = ap (λ (v : Bool). cond v (n + 5) n) e in
         omega arith
 
-    count-told : flagOf s (8 * (at + 6 + 5)) ≡ false → look t "component_count" ≡ fieldOf s (8 * (at + 6 + 6)) 8
+    pub count-told : flagOf s (8 * (at + 6 + 5)) ≡ false → look t "component_count" ≡ fieldOf s (8 * (at + 6 + 6)) 8
     unfolding componentRows look values
     count-told e =
         to-components "component_count" refl refl
         ∙ rw e (there s (8 * (at + 6 + 6)) (8 * (at + 6 + 6)) 8 refl (omega arith) (omega (arith, listed e)))
 
-    mode-told : modeOf t ≡ modeAt s (at + 6)
+    pub mode-told : modeOf t ≡ modeAt s (at + 6)
     mode-told =
         ap (λ (v : Bool). cond v Mode.Program (Mode.Components (look t "component_count"))) program-told
         ∙ cond-same (flagOf s (8 * (at + 6 + 5))) (λ e. refl) (λ e. ap Mode.Components (count-told e))
 
-    delivery-told : deliveryOf t ≡ deliveryAt s (at + 6)
+    restrictions-told : flagOf s (8 * (at + 6 + 5) + 2) ≡ false
+        → let k = 8 * (at + 6 + 5) in
+        Delivery.Restricted (isSet t "web_delivery_allowed_flag") (isSet t "no_regional_blackout_flag") (isSet t "archive_allowed_flag") (look t "device_restrictions")
+        ≡ Delivery.Restricted (flagOf s (k + 3)) (flagOf s (k + 4)) (flagOf s (k + 5)) (fieldOf s (k + 6) 2)
     unfolding deliveryRows look values
-    delivery-told =
+    restrictions-told e =
         let k : ℕ = 8 * (at + 6 + 5) in
-        ap (λ (v : Bool). cond v Delivery.NotRestricted
-        (Delivery.Restricted (isSet t "web_delivery_allowed_flag") (isSet t "no_regional_blackout_flag") (isSet t "archive_allowed_flag") (look t "device_restrictions")))
-        not-restricted-told
-        ∙ cond-same (flagOf s (k + 2)) (λ e. refl)
-        (λ e.
-        let web : isSet t "web_delivery_allowed_flag" ≡ flagOf s (k + 3) = rw e (flag-set s (k + 3) (k + 3) refl (omega (arith, low))) in
-        let blackout : isSet t "no_regional_blackout_flag" ≡ flagOf s (k + 4) = rw e (flag-set s (k + 3 + 1) (k + 4) (omega arith) (omega (arith, low))) in
-        let archive : isSet t "archive_allowed_flag" ≡ flagOf s (k + 5) = rw e (flag-set s (k + 3 + 1 + 1) (k + 5) (omega arith) (omega (arith, low))) in
-        let device : look t "device_restrictions" ≡ fieldOf s (k + 6) 2 =
-        rw e (there s (k + 3 + 1 + 1 + 1) (k + 6) 2 (omega arith) (omega arith) (omega (arith, low))) in
-        λ i. Delivery.Restricted (web i) (blackout i) (archive i) (device i))
+        rw e
+        (λ i.
+        Delivery.Restricted (flag-set s (k + 3) (k + 3) refl (omega (arith, low)) i) (flag-set s (k + 3 + 1) (k + 4) (omega arith) (omega (arith, low)) i)
+        (flag-set s (k + 3 + 1 + 1) (k + 5) (omega arith) (omega (arith, low)) i)
+        (there s (k + 3 + 1 + 1 + 1) (k + 6) 2 (omega arith) (omega arith) (omega (arith, low)) i))
 
-    duration-told : durationOf t ≡ durationAt s (at + 6)
+    pub delivery-told : deliveryOf t ≡ deliveryAt s (at + 6)
+    delivery-told =
+        ap (λ (v : Bool). cond v Delivery.NotRestricted
+        (Delivery.Restricted (isSet t "web_delivery_allowed_flag") (isSet t "no_regional_blackout_flag") (isSet t "archive_allowed_flag")
+        (look t "device_restrictions")))
+        not-restricted-told
+        ∙ cond-same (flagOf s (8 * (at + 6 + 5) + 2)) (λ e. refl) restrictions-told
+
+    pub duration-told : durationOf t ≡ durationAt s (at + 6)
     unfolding durationRows look values
     duration-told =
         ap (λ (v : Bool). cond v (Duration.Present (ticks (look t "segmentation_duration"))) Duration.Absent) duration-flag-told
@@ -286,10 +250,10 @@ module _ (s : List ℕ) (at : ℕ) where
 -- ---- from the UPID on
 
 -- the answer by what the rows have of the two names
-abbrev subAnswer : List ℕ → ℕ → ℕ → SubSegments
+abbrev pub subAnswer : List ℕ → ℕ → ℕ → SubSegments
 subAnswer found number expected = cond (ltb 0 (length found)) (SubSegments.Present number expected) SubSegments.Absent
 
-module _ (s : List ℕ) (stop u : ℕ) (inside : stop ≤ length s) (fits : afterUpid s u + 3 ≤ stop) where
+module _ (s : List ℕ) (stop u : ℕ) where
   -- the rows from segmentation_type_id on
   typed : Trace
   typed = values table.numbers (bit s) (8 * afterUpid s u) ++ cond (hasSubNumbers s stop u) (values table.subNumbers (bit s) (8 * (afterUpid s u + 3))) []
@@ -300,14 +264,6 @@ module _ (s : List ℕ) (stop u : ℕ) (inside : stop ≤ length s) (fits : afte
   typed-on : endRows s stop u ≡ values table.upidHead (bit s) (8 * u) ++ (upid ++ typed)
   unfolding endRows upid typed
   typed-on = refl
-
-  upid-type-there : look (endRows s stop u) "segmentation_upid_type" ≡ fieldOf s (8 * u) 8
-  unfolding endRows look values
-  upid-type-there = there s (8 * u) (8 * u) 8 refl (omega arith) (omega arith)
-
-  upid-length-there : look (endRows s stop u) "segmentation_upid_length" ≡ fieldOf s (8 * (u + 1)) 8
-  unfolding endRows look values
-  upid-length-there = there s (8 * u + 8) (8 * (u + 1)) 8 (omega arith) (omega arith) (omega arith)
 
   to-typed : (n : Name) → all (other n) table.upidHead ≡ true → all (other n) table.upidByte ≡ true → look (endRows s stop u) n ≡ look typed n
   unfolding upid
@@ -332,38 +288,47 @@ module _ (s : List ℕ) (stop u : ℕ) (inside : stop ≤ length s) (fits : afte
       each-append (other n) (values table.numbers (bit s) k) (cond (hasSubNumbers s stop u) r []) (each-values (other n) table.numbers (bit s) k h)
       (each-cond (other n) (hasSubNumbers s stop u) r [] (each-values (other n) table.subNumbers (bit s) _ l) tt)
 
-  ends-each : (n : Name) → all (other n) table.upidHead ≡ true → all (other n) table.upidByte ≡ true → all (other n) table.numbers ≡ true
+  pub ends-each : (n : Name) → all (other n) table.upidHead ≡ true → all (other n) table.upidByte ≡ true → all (other n) table.numbers ≡ true
       → all (other n) table.subNumbers ≡ true → Each (other n) (endRows s stop u)
   unfolding endRows upid typed
   ends-each n h l m o =
       each-append (other n) (values table.upidHead (bit s) (8 * u)) (upid ++ typed) (each-values (other n) table.upidHead (bit s) (8 * u) h)
       (each-append (other n) upid typed (each-many (other n) table.upidByte (bit s) _ _ l) (typed-each n m o))
 
-  type-there : look (endRows s stop u) "segmentation_type_id" ≡ fieldOf s (8 * afterUpid s u) 8
+module _ (s : List ℕ) (stop u : ℕ) (inside : stop ≤ length s) (fits : afterUpid s u + 3 ≤ stop) where
+  pub upid-type-there : look (endRows s stop u) "segmentation_upid_type" ≡ fieldOf s (8 * u) 8
+  unfolding endRows look values
+  upid-type-there = there s (8 * u) (8 * u) 8 refl (omega arith) (omega arith)
+
+  pub upid-length-there : look (endRows s stop u) "segmentation_upid_length" ≡ fieldOf s (8 * (u + 1)) 8
+  unfolding endRows look values
+  upid-length-there = there s (8 * u + 8) (8 * (u + 1)) 8 (omega arith) (omega arith) (omega arith)
+
+  pub type-there : look (endRows s stop u) "segmentation_type_id" ≡ fieldOf s (8 * afterUpid s u) 8
   unfolding typed look values
   type-there =
       let k : ℕ = afterUpid s u in
-      to-typed "segmentation_type_id" refl refl ∙ there s (8 * k) (8 * k) 8 refl (omega arith) (omega arith)
+      to-typed s stop u "segmentation_type_id" refl refl ∙ there s (8 * k) (8 * k) 8 refl (omega arith) (omega arith)
 
-  number-there : look (endRows s stop u) "segment_num" ≡ fieldOf s (8 * (afterUpid s u + 1)) 8
+  pub number-there : look (endRows s stop u) "segment_num" ≡ fieldOf s (8 * (afterUpid s u + 1)) 8
   unfolding typed look values
   number-there =
       let k : ℕ = afterUpid s u in
-      to-typed "segment_num" refl refl ∙ there s (8 * k + 8) (8 * (k + 1)) 8 (omega arith) (omega arith) (omega arith)
+      to-typed s stop u "segment_num" refl refl ∙ there s (8 * k + 8) (8 * (k + 1)) 8 (omega arith) (omega arith) (omega arith)
 
-  expected-there : look (endRows s stop u) "segments_expected" ≡ fieldOf s (8 * (afterUpid s u + 2)) 8
+  pub expected-there : look (endRows s stop u) "segments_expected" ≡ fieldOf s (8 * (afterUpid s u + 2)) 8
   unfolding typed look values
   expected-there =
       let k : ℕ = afterUpid s u in
-      to-typed "segments_expected" refl refl ∙ there s (8 * k + 8 + 8) (8 * (k + 2)) 8 (omega arith) (omega arith) (omega arith)
+      to-typed s stop u "segments_expected" refl refl ∙ there s (8 * k + 8 + 8) (8 * (k + 2)) 8 (omega arith) (omega arith) (omega arith)
 
-  sub-segments-there : (hasSubNumbers s stop u ≡ true → afterUpid s u + 5 ≤ stop)
+  pub sub-segments-there : (hasSubNumbers s stop u ≡ true → afterUpid s u + 5 ≤ stop)
       → subSegmentsOf (endRows s stop u) ≡ subSegmentsAt s (fieldOf s (8 * afterUpid s u) 8) (afterUpid s u + 3) stop
   unfolding typed look allOf values
   sub-segments-there more =
       let k : ℕ = afterUpid s u in
       (λ i.
-      subAnswer (all-typed "sub_segment_num" refl refl i) (to-typed "sub_segment_num" refl refl i) (to-typed "sub_segments_expected" refl refl i))
+      subAnswer (all-typed s stop u "sub_segment_num" refl refl i) (to-typed s stop u "sub_segment_num" refl refl i) (to-typed s stop u "sub_segments_expected" refl refl i))
       ∙ go (hasSubNumbers s stop u)
       (λ e. there s (8 * (k + 3)) (8 * (k + 3)) 8 refl (omega arith) (omega (arith, more e)))
       (λ e. there s (8 * (k + 3) + 8) (8 * (k + 3 + 1)) 8 (omega arith) (omega arith) (omega (arith, more e)))
@@ -376,21 +341,6 @@ module _ (s : List ℕ) (stop u : ℕ) (inside : stop ≤ length s) (fits : afte
 
 -- ---- the UPID
 
--- so many bytes from byte k on are as many fields of eight bits
-bytes-are : (s : List ℕ) → AreBytes s → (n k : ℕ) → k + n ≤ length s → take n (drop k s) ≡ fieldsFrom (bit s) 8 n (8 * k)
-bytes-are s h n k l =
-    let long : length (take n (drop k s)) ≡ n = length-take-le n (drop k s) (omega (arith, length-drop k s)) in
-    ext-getD 0 (take n (drop k s)) (fieldsFrom (bit s) 8 n (8 * k)) (long ∙ sym (fields-length (bit s) 8 n (8 * k)))
-    (λ i m.
-    let m′ : i < n = omega (arith, long) in
-    let byte : 8 * (k + i) ≡ 8 * k + i * 8 = omega arith in
-    getD-take n (drop k s) i 0 m′
-    ∙ getD-drop k s i 0
-    ∙ sym (byte-field s (k + i) (h (k + i)))
-    ∙ ap (λ (x : ℕ). num (bit s) x 8) byte
-    ∙ sym (fields-at (bit s) 8 n (8 * k) i [] m′)
-    ∙ ap (λ (x : List ℕ). getD x i 0) (append-nil (fieldsFrom (bit s) 8 n (8 * k))))
-
 module _ (s : List ℕ) (at stop : ℕ) (inside : stop ≤ length s) (fits : afterUpid s (upidPlace s (at + 6)) + 3 ≤ stop) where
   abbrev u : ℕ
   u = upidPlace s (at + 6)
@@ -398,7 +348,7 @@ module _ (s : List ℕ) (at stop : ℕ) (inside : stop ≤ length s) (fits : aft
   abbrev whole-t : Trace
   whole-t = headed s at (wholeRows s (at + 6) (endRows s stop u))
 
-  through-size : 8 * at + size (through "segmentation_upid_length" whole-t) ≡ 8 * (u + 2)
+  pub through-size : 8 * at + size (through "segmentation_upid_length" whole-t) ≡ 8 * (u + 2)
   unfolding endRows through values rowsOf
   through-size =
       let n : Name = "segmentation_upid_length" in
@@ -406,23 +356,23 @@ module _ (s : List ℕ) (at stop : ℕ) (inside : stop ≤ length s) (fits : aft
       ap (through n) (opened-on s at (endRows s stop u)) ∙ through-past n (opened s at) (endRows s stop u) (opened-each s at n refl refl) in
       omega (arith, ap size rows, size-append (opened s at) (values table.upidHead (bit s) (8 * u)), opened-size s at)
 
-  all-upid : allOf whole-t "segmentation_upid" ≡ fieldsFrom (bit s) 8 (fieldOf s (8 * (u + 1)) 8) (8 * (u + 2))
+  pub all-upid : allOf whole-t "segmentation_upid" ≡ fieldsFrom (bit s) 8 (fieldOf s (8 * (u + 1)) 8) (8 * (u + 2))
   unfolding upid
   all-upid =
       let n : Name = "segmentation_upid" in
       let c : ℕ = fieldOf s (8 * (u + 1)) 8 in
       all-to-end s at (endRows s stop u) (omega arith) n refl refl
-      ∙ ap (λ (t : Trace). allOf t n) (typed-on s stop u inside fits)
-      ∙ all-past n (values table.upidHead (bit s) (8 * u)) (upid s stop u inside fits ++ typed s stop u inside fits)
+      ∙ ap (λ (t : Trace). allOf t n) (typed-on s stop u)
+      ∙ all-past n (values table.upidHead (bit s) (8 * u)) (upid s stop u ++ typed s stop u)
       (each-values (other n) table.upidHead (bit s) (8 * u) refl)
-      ∙ all-many n 8 refl (bit s) c (8 * (u + 2)) (typed s stop u inside fits)
-      ∙ ap (λ (l : List ℕ). fieldsFrom (bit s) 8 c (8 * (u + 2)) ++ l) (all-none n (typed s stop u inside fits) (typed-each s stop u inside fits n refl refl))
+      ∙ all-many n 8 refl (bit s) c (8 * (u + 2)) (typed s stop u)
+      ∙ ap (λ (l : List ℕ). fieldsFrom (bit s) 8 c (8 * (u + 2)) ++ l) (all-none n (typed s stop u) (typed-each s stop u n refl refl))
       ∙ append-nil (fieldsFrom (bit s) 8 c (8 * (u + 2)))
 
 -- ---- the components
 
 module _ (s : List ℕ) (at : ℕ) (w : Trace) (inside : upidPlace s (at + 6) ≤ length s) where
-  no-components : flagOf s (8 * (at + 6 + 5)) ≡ true → Each (other "component_count") w → look (headed s at (wholeRows s (at + 6) w)) "component_count" ≡ 0
+  pub no-components : flagOf s (8 * (at + 6 + 5)) ≡ true → Each (other "component_count") w → look (headed s at (wholeRows s (at + 6) w)) "component_count" ≡ 0
   unfolding componentRows
   no-components e h =
       let n : Name = "component_count" in
@@ -433,7 +383,7 @@ module _ (s : List ℕ) (at : ℕ) (w : Trace) (inside : upidPlace s (at + 6) �
       ∙ look-past n (durationRows s (at + 6)) w (duration-each s at n refl)
       ∙ look-none n w h
 
-  component-part : flagOf s (8 * (at + 6 + 5)) ≡ false → (m : ℕ) → m < fieldOf s (8 * (at + 6 + 6)) 8
+  pub component-part : flagOf s (8 * (at + 6 + 5)) ≡ false → (m : ℕ) → m < fieldOf s (8 * (at + 6 + 6)) 8
       → (rest : Trace)
       × (part "component_tag" m (headed s at (wholeRows s (at + 6) w)) ≡ values table.component (bit s) (8 * (at + 6 + 7) + m * 48) ++ rest)
   unfolding componentRows values
@@ -452,156 +402,3 @@ module _ (s : List ℕ) (at : ℕ) (w : Trace) (inside : upidPlace s (at + 6) �
             (each-values (other n) table.count (bit s) (8 * (at + 6 + 6)) refl)
             ∙ one .1,
       )
-
--- ---- what a descriptor says
-
-module _ (s : List ℕ) (at stop : ℕ) (inside : stop ≤ length s) where
-  cancelled-says : (body : Trace) → flagOf s (8 * (at + 6 + 4)) ≡ true → (at + 11 ≤ stop) → body ≡ values table.event (bit s) (8 * (at + 6))
-      → segmentationOf (headed s at body) ≡ segmentationAt s (at + 6) stop
-  unfolding segmentationOf segmentationAt values
-  cancelled-says body e h q =
-      ap (λ (t : Trace). segmentationOf (headed s at t)) q
-      ∙ rw (cancel-there s at [] (omega arith) ∙ e, e) (ap (λ (x : ℕ). Descriptor.CancelledSegmentation (eventId x)) (id-there s at [] (omega arith)))
-
-  whole-says : (body : Trace) → flagOf s (8 * (at + 6 + 4)) ≡ false → Whole s stop (at + 6) body
-      → segmentationOf (headed s at body) ≡ segmentationAt s (at + 6) stop
-  unfolding segmentationOf segmentationAt
-  whole-says body e h =
-      let u : ℕ = upidPlace s (at + 6) in
-      let w : Trace = endRows s stop u in
-      let there : u ≤ length s = omega (arith, h .fits) in
-      let rest : Trace =
-      values table.flags (bit s) (8 * (at + 6 + 5)) ++ (deliveryRows s (at + 6) ++ (componentRows s (at + 6) ++ (durationRows s (at + 6) ++ w))) in
-      let far : at + 11 ≤ length s = omega (arith, low s at w there) in
-      let subs : subSegmentsOf (headed s at (wholeRows s (at + 6) w)) ≡ subSegmentsOf w =
-      (λ i.
-      subAnswer (all-to-end s at w there "sub_segment_num" refl refl i) (to-end s at w there "sub_segment_num" refl refl i)
-      (to-end s at w there "sub_segments_expected" refl refl i)) in
-      ap (λ (t : Trace). segmentationOf (headed s at t)) (h .rows)
-      ∙ rw (cancel-there s at rest far ∙ e, e)
-      (λ i.
-      Descriptor.Segmentation
-      (record {
-        «segmentation_event_id» = eventId (id-there s at rest far i);
-        mode = mode-told s at w there i;
-        delivery = delivery-told s at w there i;
-        duration = duration-told s at w there i;
-        «segmentation_upid_type» = (to-end s at w there "segmentation_upid_type" refl refl ∙ upid-type-there s stop u inside (h .fits)) i;
-        «segmentation_upid_length» = (to-end s at w there "segmentation_upid_length" refl refl ∙ upid-length-there s stop u inside (h .fits)) i;
-        «segmentation_type_id» = (to-end s at w there "segmentation_type_id" refl refl ∙ type-there s stop u inside (h .fits)) i;
-        «segment_num» = (to-end s at w there "segment_num" refl refl ∙ number-there s stop u inside (h .fits)) i;
-        «segments_expected» = (to-end s at w there "segments_expected" refl refl ∙ expected-there s stop u inside (h .fits)) i;
-        «sub_segments» = (subs ∙ sub-segments-there s stop u inside (h .fits) (h .more)) i;
-      }))
-
--- ---- for a reading of a descriptor's table
-
--- a component that is there is one of a descriptor that is not cancelled and whose program is not segmented
-listed-one : (v w : Bool) (n m : ℕ) → m < cond v 0 (cond w 0 n) → (v ≡ false) × ((w ≡ false) × (m < n))
-listed-one true w n m h = absurd (not-suc-le-zero h)
-listed-one false true n m h = absurd (not-suc-le-zero h)
-listed-one false false n m h = (refl, (refl, h))
-
--- the values of component m of the descriptor with the rows t, which stands at byte k
-pub record Component (s : List ℕ) (t : Trace) (m k : ℕ) : Type 0 where
-  pub tag : look (part "component_tag" m t) "component_tag" ≡ fieldOf s (8 * k) 8
-  pub offset : look (part "component_tag" m t) "pts_offset" ≡ fieldOf s (8 * k + 15) 33
-
--- the UPID of the descriptor with the rows t, which stands at byte `at`: its bytes stand from byte k on
-pub record UpidStands (s : List ℕ) (at : ℕ) (t : Trace) (k n : ℕ) : Type 0 where
-  pub starts : 8 * at + size (through "segmentation_upid_length" t) ≡ 8 * k
-  pub long : look t "segmentation_upid_length" ≡ n
-
-module _ (s : List ℕ) (at stop : ℕ) (env : Env) (body : Trace) (inside : stop ≤ length s)
-    (reads : read segmentation-descriptor env (bit s) (8 * stop) (8 * (at + 6)) ≡ reached (8 * stop) body) where
-  as-cancelled : flagOf s (8 * (at + 6 + 4)) ≡ true → (at + 11 ≤ stop) × (body ≡ values table.event (bit s) (8 * (at + 6)))
-  as-cancelled e = let h = given (cancelled s stop inside (at + 6) env e .tells) reads in (omega (arith, h .0), h .1)
-
-  as-whole : flagOf s (8 * (at + 6 + 4)) ≡ false → Whole s stop (at + 6) body
-  as-whole e = given (whole s stop inside (at + 6) env e .tells) reads
-
-  pub segmentation-told : segmentationOf (headed s at body) ≡ segmentationAt s (at + 6) stop
-  segmentation-told =
-      ⊎-elim (λ e. let h = as-cancelled e in cancelled-says s at stop inside body e (h .0) (h .1)) (λ e. whole-says s at stop inside body e (as-whole e))
-      (by-cases (flagOf s (8 * (at + 6 + 4))))
-
-  pub cancel-told : isSet (headed s at body) "segmentation_event_cancel_indicator" ≡ flagOf s (8 * (at + 10))
-  unfolding values
-  cancel-told =
-      let n : Name = "segmentation_event_cancel_indicator" in
-      let place : 8 * (at + 6 + 4) ≡ 8 * (at + 10) = omega arith in
-      ⊎-elim
-      (λ e. let h = as-cancelled e in ap (λ (t : Trace). isSet (headed s at t) n) (h .1) ∙ cancel-there s at [] (omega arith))
-      (λ e.
-      let h = as-whole e in
-      let w : Trace = endRows s stop (upidPlace s (at + 6)) in
-      ap (λ (t : Trace). isSet (headed s at t) n) (h .rows) ∙ cancel-there s at _ (omega (arith, low s at w (omega (arith, h .fits)))))
-      (by-cases (flagOf s (8 * (at + 6 + 4))))
-      ∙ ap (flagOf s) place
-
-  pub count-of-components : look (headed s at body) "component_count" ≡ componentsAt s (at + 6)
-  unfolding values look
-  count-of-components =
-      ⊎-elim (λ e. ap (λ (t : Trace). look (headed s at t) "component_count") (as-cancelled e .1) ∙ rw e)
-      (λ e.
-      let h = as-whole e in
-      let u : ℕ = upidPlace s (at + 6) in
-      let w : Trace = endRows s stop u in
-      let there : u ≤ length s = omega (arith, h .fits) in
-      ap (λ (t : Trace). look (headed s at t) "component_count") (h .rows)
-      ∙ ⊎-elim (λ q. no-components s at w there q (ends-each s stop u inside (h .fits) "component_count" refl refl refl refl) ∙ rw (e, q))
-      (λ q. count-told s at w there q ∙ rw (e, q))
-      (by-cases (flagOf s (8 * (at + 6 + 5)))))
-      (by-cases (flagOf s (8 * (at + 6 + 4))))
-
-  pub component-told : (m : ℕ) → m < componentsAt s (at + 6) → Component s (headed s at body) m (at + 13 + 6 * m)
-  unfolding values look
-  component-told m l =
-      let one = listed-one (flagOf s (8 * (at + 6 + 4))) (flagOf s (8 * (at + 6 + 5))) (fieldOf s (8 * (at + 6 + 6)) 8) m l in
-      let h = as-whole (one .0) in
-      let w : Trace = endRows s stop (upidPlace s (at + 6)) in
-      let there-is : upidPlace s (at + 6) ≤ length s = omega (arith, h .fits) in
-      let fits = listed s at w there-is (one .1 .0) in
-      let c = component-part s at w there-is (one .1 .0) m (one .1 .1) in
-      let rows = ap (λ (t : Trace). part "component_tag" m (headed s at t)) (h .rows) ∙ c .1 in
-      let k : ℕ = 8 * (at + 6 + 7) + m * 48 in
-      record {
-        tag =
-            ap (λ (t : Trace). look t "component_tag") rows
-            ∙ there s k (8 * (at + 13 + 6 * m)) 8 (omega arith) (omega arith) (omega (arith, fits, one .1 .1));
-        offset =
-            ap (λ (t : Trace). look t "pts_offset") rows
-            ∙ there s (k + 8 + 7) (8 * (at + 13 + 6 * m) + 15) 33 (omega arith) (omega arith) (omega (arith, fits, one .1 .1));
-      }
-
-  -- not cancelled
-  module _ (kept : flagOf s (8 * (at + 10)) ≡ false) where
-    as-kept : Whole s stop (at + 6) body
-    as-kept =
-        let place : 8 * (at + 6 + 4) ≡ 8 * (at + 10) = omega arith in
-        as-whole (ap (flagOf s) place ∙ kept)
-
-    pub upid-told : UpidStands s at (headed s at body) (upidPlace s (at + 6) + 2) (fieldOf s (8 * (upidPlace s (at + 6) + 1)) 8)
-    upid-told =
-        let h = as-kept in
-        let u : ℕ = upidPlace s (at + 6) in
-        subst (λ (t : Trace). UpidStands s at (headed s at t) (u + 2) (fieldOf s (8 * (u + 1)) 8)) (sym (h .rows))
-        (record {
-          starts = through-size s at stop inside (h .fits);
-          long =
-              to-end s at (endRows s stop u) (omega (arith, h .fits)) "segmentation_upid_length" refl refl
-              ∙ upid-length-there s stop u inside (h .fits);
-        })
-
-    pub upid-inside : upidPlace s (at + 6) + 2 + fieldOf s (8 * (upidPlace s (at + 6) + 1)) 8 ≤ stop
-    upid-inside = omega (arith, as-kept .fits)
-
-    -- the bytes that the part has are the values under the name
-    pub upid-bytes : AreBytes s
-        → take (fieldOf s (8 * (upidPlace s (at + 6) + 1)) 8) (drop (upidPlace s (at + 6) + 2) s) ≡ allOf (headed s at body) "segmentation_upid"
-    upid-bytes bytes =
-        let h = as-kept in
-        let u : ℕ = upidPlace s (at + 6) in
-        bytes-are s bytes (fieldOf s (8 * (u + 1)) 8) (u + 2) (omega (arith, h .fits))
-        ∙ sym (all-upid s at stop inside (h .fits))
-        ∙ ap (λ (t : Trace). allOf (headed s at t) "segmentation_upid") (sym (h .rows))
