@@ -1,3 +1,7 @@
 pub mod Room
-pub mod Tags
+pub mod Rows
+pub mod SegmentationNames
+pub mod SegmentationRows
+pub mod SegmentationTold
 pub mod Small
+pub mod Tags
