@@ -5,3 +5,4 @@ pub mod SegmentationRows
 pub mod SegmentationTold
 pub mod Small
 pub mod Tags
+pub mod Told

@@ -1,13 +1,13 @@
 -- The rows of an avail, a DTMF, a time and an audio descriptor after the identifier, whole, and what they say by name and by place.
 -- Assumes nothing.
-use mathlib.Core.Path.{_≡_, refl, ap, _∙_, subst}
+use mathlib.Core.Path.{_≡_, refl, ap, _∙_}
 use mathlib.Core.List.{List, [], _∷_, _++_, append-nil}
 use Prim.Native.Nat.{ℕ, _+_, _*_, _<_}
 use native.Mathlib.Omega.{arith}
 use lib.ListN.{length, getD}
 use Rattle.bits.specs.Bits.{bit, num, fieldOf}
 use Rattle.grammar.specs.Syntax.{Item, field, reserved}
-use Rattle.grammar.specs.Meaning.{Env, values, reached, read}
+use Rattle.grammar.specs.Meaning.{Env, values}
 use Rattle.grammar.specs.Tables.{avail-descriptor, dtmf-descriptor, time-descriptor, audio-descriptor}
 use Rattle.grammar.specs.Traces.{Trace}
 use Rattle.grammar.specs.Names.{look, allOf, part}
@@ -17,7 +17,9 @@ use Rattle.grammar.proofs.Names.{part-past, part-many, all-many, fieldsFrom, fi
 use Rattle.descriptors.specs.declared.Kind.{Kind}
 use Rattle.descriptors.specs.Walk.{kindOf, tableOf}
 use Rattle.descriptor_reading.specs.Places.{Stands}
-use Rattle.descriptor_reading.proofs.Tags.{there}
+use Rattle.descriptor_reading.proofs.Tags.{reads-as}
+use Rattle.descriptor_reading.proofs.SegmentationRows.{there}
+use Rattle.descriptor_reading.proofs.SegmentationNames.{headed}
 
 -- ---- the rows
 
@@ -65,20 +67,11 @@ audio-tells env f end k = rows (λ m. alike (num f k 4) refl (over (refl, refl))
 
 -- ---- what they say
 
--- tag, length and identifier, and then the rows u
-abbrev headed : List ℕ → ℕ → Trace → Trace
-headed s at u =
-    values (field 8 "splice_descriptor_tag" ∷ field 8 "descriptor_length" ∷ []) (bit s) (8 * at)
-    ++ (values (field 32 "identifier" ∷ []) (bit s) (8 * at + 16) ++ u)
-
 module _ (s : List ℕ) (at : ℕ) (t : Trace) (h : Stands s at t) where
   -- where the descriptor ends and its rows, as the table of its kind tells
   whole : (k : Kind) {e : ℕ} {u : Trace} → Tells (Whole e u) (tableOf k) (h .env) (bit s) (8 * h .stop) (8 * (at + 6)) → kindOf s at ≡ k
       → (8 * h .stop ≡ e) × (t ≡ headed s at u)
-  whole k l e =
-      let w =
-      given (l .tells) (subst (λ (x : Kind). read (tableOf x) (h .env) (bit s) (8 * h .stop) (8 * (at + 6)) ≡ reached (8 * h .stop) (h .body)) e (h .reads)) in
-      (w .0, h .rows ∙ ap (headed s at) (w .1))
+  whole k l e = let w = given (l .tells) (reads-as s at t h k e) in (w .0, h .rows ∙ ap (headed s at) (w .1))
 
   pub avail-values : kindOf s at ≡ Kind.Avail → look t "provider_avail_id" ≡ fieldOf s (8 * (at + 6)) 32
   unfolding tableOf values look

@@ -1,26 +1,21 @@
--- The kind of a known descriptor and its tag: by its rows and by its place.
+-- The kind of a known descriptor: its tag, by its rows and by its place, and its table.
 -- Assumes nothing.
-use mathlib.Core.Path.{_≡_, refl, sym, ap, _∙_}
+use mathlib.Core.Path.{_≡_, refl, sym, ap, _∙_, subst}
 use mathlib.Core.Bool.{Bool, true, false, cond, _&&_, false≢true}
 use mathlib.Core.List.{List}
-use Prim.Native.Nat.{ℕ, _+_, _*_, _≤_}
+use Prim.Native.Nat.{ℕ, _+_, _*_}
 use native.Mathlib.Omega.{arith}
-use lib.ListN.{length}
 use lib.Dec.{eqb}
 use borrow.Author.Tests.{eqb-true}
-use Rattle.bits.specs.Bits.{bit, num, fieldOf}
+use Rattle.bits.specs.Bits.{bit, num}
 use Rattle.bits.proofs.Within.{field-there}
-use Rattle.grammar.specs.Meaning.{values}
+use Rattle.grammar.specs.Meaning.{values, reached, read}
 use Rattle.grammar.specs.Traces.{Trace}
 use Rattle.grammar.specs.Names.{look}
 use Rattle.descriptors.specs.declared.Kind.{Kind}
-use Rattle.descriptors.specs.Walk.{byTag, kindOf}
+use Rattle.descriptors.specs.Walk.{byTag, kindOf, tableOf}
 use Rattle.descriptor_reading.specs.Descriptor.{isKnown, isTag}
 use Rattle.descriptor_reading.specs.Places.{Stands, tagAt}
-
--- a row at place k that is all there is the field at that place
-pub there : (s : List ℕ) (k p w : ℕ) → k ≡ p → w ≤ 48 → p + w ≤ 8 * length s → num (bit s) k w ≡ fieldOf s p w
-there s k p w e h l = ap (λ (x : ℕ). num (bit s) x w) e ∙ sym (field-there s p w h l)
 
 -- the tag of a kind (Table 16)
 abbrev pub tagOf : Kind → ℕ
@@ -72,6 +67,10 @@ kind-back Kind.Audio = refl
 kind-back Kind.Unknown = refl
 
 module _ (s : List ℕ) (at : ℕ) (t : Trace) (h : Stands s at t) where
+  -- the table of its kind reads its rows after the identifier
+  pub reads-as : (k : Kind) → kindOf s at ≡ k → read (tableOf k) (h .env) (bit s) (8 * h .stop) (8 * (at + 6)) ≡ reached (8 * h .stop) (h .body)
+  reads-as k e = subst (λ (x : Kind). read (tableOf x) (h .env) (bit s) (8 * h .stop) (8 * (at + 6)) ≡ reached (8 * h .stop) (h .body)) e (h .reads)
+
   tag-there : tagAt s at ≡ num (bit s) (8 * at) 8
   tag-there = field-there s (8 * at) 8 (omega arith) (omega (arith, h .low, h .inside))
 
