@@ -1,27 +1,13 @@
 -- `descriptor_reading::dtmf_char` meets its contract.
 -- Assumes nothing.
-use mathlib.Core.Path.{_≡_, sym, ap, _∙_}
-use mathlib.Core.Bool.{Bool, cond}
-use mathlib.Core.List.{[]}
-use Prim.Native.Nat.{ℕ}
-use native.Mathlib.Omega.{arith}
-use lib.ListN.{getD}
-use borrow.Author.Tests.{le-ltb}
+use mathlib.Core.Path.{sym, ap, _∙_}
 use borrow.Author.Needs.{needs}
 use Rattle.grammar.specs.Traces.{Trace}
-use Rattle.grammar.specs.Names.{look}
-use Rattle.units.specs.declared.refusals.Refusal.{Refusal}
-use Rattle.descriptor_reading.specs.declared.answers.DtmfChar.{DtmfChar}
 use Rattle.descriptor_reading.specs.Descriptor.{dtmfCharOf}
 use Rattle.descriptor_reading.proofs.Placed.{not-there, stands-at, low-enough}
-use Rattle.descriptor_reading.proofs.Told.{dtmf-told}
+use Rattle.descriptor_reading.proofs.Told.{dtmf-told, none-dtmf}
 use Rattle.descriptor_reading.proofs.dtmf_char.Statement.{statement}
 use Rattle.descriptor_reading.proofs.dtmf_char.Tie as tie
-
--- no rows have no characters
-none : (m : ℕ) → dtmfCharOf [] m ≡ DtmfChar.Refused Refusal.NotHere
-unfolding dtmfCharOf look
-none m = ap (λ (b : Bool). cond b (DtmfChar.Char (getD [] m 0)) (DtmfChar.Refused Refusal.NotHere)) (le-ltb m 0 (omega arith))
 
 known-requires : tie.Need-known-requires
 known-requires c κs = search needs
@@ -35,7 +21,7 @@ enum-told c = search needs
 returns : tie.Need-returns
 returns c =
     let a = c .before .before .before .before .args in
-    sym (ap (λ (t : Trace). dtmfCharOf t (a .m)) (not-there (a .s .now) (a .cursor) (a .n) (c .before .before .known .ensures) (c .enum-told .given .1)) ∙ none (a .m))
+    sym (ap (λ (t : Trace). dtmfCharOf t (a .m)) (not-there (a .s .now) (a .cursor) (a .n) (c .before .before .known .ensures) (c .enum-told .given .1)) ∙ none-dtmf (a .m))
 
 dtmf-char-requires : tie.Need-dtmf-char-requires
 dtmf-char-requires c κs =

@@ -2,10 +2,9 @@
 -- Assumes nothing.
 use mathlib.Core.Path.{sym, ap, _∙_}
 use borrow.Author.Needs.{needs}
-use Rattle.grammar.specs.Names.{look}
 use Rattle.descriptor_reading.specs.Descriptor.{descriptorOf}
 use Rattle.descriptor_reading.proofs.Placed.{not-there, stands-at, low-enough}
-use Rattle.descriptor_reading.proofs.Told.{descriptor-told}
+use Rattle.descriptor_reading.proofs.Told.{descriptor-told, none-descriptor}
 use Rattle.descriptor_reading.proofs.known_descriptor.Statement.{statement}
 use Rattle.descriptor_reading.proofs.known_descriptor.Tie as tie
 
@@ -19,10 +18,9 @@ enum-told : tie.Need-enum-told
 enum-told c = search needs
 
 returns : tie.Need-returns
-unfolding descriptorOf look
 returns c =
     let a = c .before .before .before .before .args in
-    sym (ap descriptorOf (not-there (a .s .now) (a .cursor) (a .n) (c .before .before .known .ensures) (c .enum-told .given .1)))
+    sym (ap descriptorOf (not-there (a .s .now) (a .cursor) (a .n) (c .before .before .known .ensures) (c .enum-told .given .1)) ∙ none-descriptor)
 
 descriptor-requires : tie.Need-descriptor-requires
 descriptor-requires c κs =

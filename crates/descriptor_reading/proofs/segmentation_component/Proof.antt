@@ -3,10 +3,9 @@
 use mathlib.Core.Path.{sym, ap, _∙_}
 use borrow.Author.Needs.{needs}
 use Rattle.grammar.specs.Traces.{Trace}
-use Rattle.grammar.specs.Names.{look}
 use Rattle.descriptor_reading.specs.Descriptor.{segmentationComponentOf}
 use Rattle.descriptor_reading.proofs.Placed.{not-there, stands-at, low-enough}
-use Rattle.descriptor_reading.proofs.Told.{segmentation-component-told}
+use Rattle.descriptor_reading.proofs.Told.{segmentation-component-told, none-segmentation-component}
 use Rattle.descriptor_reading.proofs.segmentation_component.Statement.{statement}
 use Rattle.descriptor_reading.proofs.segmentation_component.Tie as tie
 
@@ -20,10 +19,9 @@ enum-told : tie.Need-enum-told
 enum-told c = search needs
 
 returns : tie.Need-returns
-unfolding segmentationComponentOf look
 returns c =
     let a = c .before .before .before .before .args in
-    sym (ap (λ (t : Trace). segmentationComponentOf t (a .m)) (not-there (a .s .now) (a .cursor) (a .n) (c .before .before .known .ensures) (c .enum-told .given .1)))
+    sym (ap (λ (t : Trace). segmentationComponentOf t (a .m)) (not-there (a .s .now) (a .cursor) (a .n) (c .before .before .known .ensures) (c .enum-told .given .1)) ∙ none-segmentation-component (a .m))
 
 segmentation-component-requires : tie.Need-segmentation-component-requires
 segmentation-component-requires c κs =

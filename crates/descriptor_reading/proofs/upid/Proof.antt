@@ -3,10 +3,9 @@
 use mathlib.Core.Path.{sym, ap, _∙_}
 use Prim.Native.Nat.{ℕ}
 use borrow.Author.Needs.{needs}
-use Rattle.grammar.specs.Names.{look}
 use Rattle.descriptor_reading.specs.Descriptor.{knownCursors, numbered, knownTrace, upidOf, upid}
 use Rattle.descriptor_reading.proofs.Placed.{not-there, is-at, stands-at, low-enough}
-use Rattle.descriptor_reading.proofs.Told.{upid-told}
+use Rattle.descriptor_reading.proofs.Told.{upid-told, none-upid}
 use Rattle.descriptor_reading.proofs.upid.Statement.{statement}
 use Rattle.descriptor_reading.proofs.upid.Tie as tie
 
@@ -20,12 +19,13 @@ enum-told : tie.Need-enum-told
 enum-told c = search needs
 
 returns : tie.Need-returns
-unfolding upid upidOf look
+unfolding upid
 returns c =
     let a = c .before .before .before .before .args in
     sym
     (ap (upidOf (numbered (knownCursors (a .s .now) (a .cursor)) (a .n) .at))
-    (not-there (a .s .now) (a .cursor) (a .n) (c .before .before .known .ensures) (c .enum-told .given .1)))
+    (not-there (a .s .now) (a .cursor) (a .n) (c .before .before .known .ensures) (c .enum-told .given .1))
+    ∙ none-upid (numbered (knownCursors (a .s .now) (a .cursor)) (a .n) .at))
 
 upid-requires : tie.Need-upid-requires
 upid-requires c κs =
