@@ -1,42 +1,31 @@
+-- `reading::insert_component` meets its contract: an open section is asked, any other is refused.
+-- Assumes nothing.
+use mathlib.Core.Path.{sym, _∙_}
 use borrow.Author.Needs.{needs}
+use Rattle.reading.specs.Reading.{insertComponent}
+use Rattle.reading.proofs.Asked.{when-open, when-refused}
 use Rattle.reading.proofs.insert_component.Statement.{statement}
 use Rattle.reading.proofs.insert_component.Tie as tie
-use Rattle.reading.proofs.insert_component.Reads as reads
-use Rattle.reading.proofs.insert_component.Lts as lts
-use Rattle.command_reading.proofs.insert_component.Reads as insert-component-reads
-use Rattle.section.proofs.open.Reads as open-reads
 
--- src/lib.rt:32:11
 open-requires : tie.Need-open-requires
 open-requires c κs = search needs
 
--- src/lib.rt:33:28
 enum-told : tie.Need-enum-told
 enum-told c = search needs
 
--- src/lib.rt:33:28
 insert-component-requires : tie.Need-insert-component-requires
 insert-component-requires c κs = search needs
 
--- src/lib.rt:34:25
 enum-known-refusal : tie.Need-enum-known-refusal
 enum-known-refusal c = search needs
 
--- src/lib.rt:29:1
 returns : tie.Need-returns
-returns c = ?
+unfolding insertComponent
+returns c = c .insert-component .ensures ∙ sym (when-open _ _ _ (sym (c .before .before .before .«open» .ensures) ∙ c .before .enum-told .given .1))
 
--- src/lib.rt:29:1
 returns-2 : tie.Need-returns-2
-returns-2 c = ?
+unfolding insertComponent
+returns-2 c = sym (when-refused _ _ _ (sym (c .before .before .before .«open» .ensures) ∙ c .before .refusal .given .1))
 
 pub insert-component-spec : {M : Type 1} → statement M
-insert-component-spec =
-    tie.close
-    (tie.spec
-    open-requires
-    enum-told
-    insert-component-requires
-    enum-known-refusal
-    returns
-    returns-2)
+insert-component-spec = tie.close (tie.spec open-requires enum-told insert-component-requires enum-known-refusal returns returns-2)

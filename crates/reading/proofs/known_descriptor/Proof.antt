@@ -1,42 +1,33 @@
+-- `reading::known_descriptor` meets its contract: an open section is asked, any other is refused.
+-- Assumes nothing.
+use mathlib.Core.Path.{sym, _∙_}
 use borrow.Author.Needs.{needs}
+use Rattle.reading.specs.Reading.{knownDescriptor}
+use Rattle.reading.proofs.Asked.{when-open, when-refused}
 use Rattle.reading.proofs.known_descriptor.Statement.{statement}
 use Rattle.reading.proofs.known_descriptor.Tie as tie
-use Rattle.reading.proofs.known_descriptor.Reads as reads
-use Rattle.reading.proofs.known_descriptor.Lts as lts
-use Rattle.descriptor_reading.proofs.known_descriptor.Reads as known-descriptor-reads
-use Rattle.section.proofs.open.Reads as open-reads
 
--- src/lib.rt:82:11
 open-requires : tie.Need-open-requires
 open-requires c κs = search needs
 
--- src/lib.rt:83:22
 enum-known-cursor : tie.Need-enum-known-cursor
 enum-known-cursor c = search needs
 
--- src/lib.rt:83:33
 known-descriptor-requires : tie.Need-known-descriptor-requires
 known-descriptor-requires c κs = search needs
 
--- src/lib.rt:84:25
 enum-known-refusal : tie.Need-enum-known-refusal
 enum-known-refusal c = search needs
 
--- src/lib.rt:79:1
 returns : tie.Need-returns
-returns c = ?
+unfolding knownDescriptor
+returns c =
+    c .known-descriptor .ensures
+    ∙ sym (when-open _ _ _ (sym (c .before .before .before .before .«open» .ensures) ∙ c .before .before .cursor .given .1))
 
--- src/lib.rt:79:1
 returns-2 : tie.Need-returns-2
-returns-2 c = ?
+unfolding knownDescriptor
+returns-2 c = sym (when-refused _ _ _ (sym (c .before .before .before .«open» .ensures) ∙ c .before .refusal .given .1))
 
 pub known-descriptor-spec : {M : Type 1} → statement M
-known-descriptor-spec =
-    tie.close
-    (tie.spec
-    open-requires
-    enum-known-cursor
-    known-descriptor-requires
-    enum-known-refusal
-    returns
-    returns-2)
+known-descriptor-spec = tie.close (tie.spec open-requires enum-known-cursor known-descriptor-requires enum-known-refusal returns returns-2)

@@ -1,36 +1,31 @@
+-- `reading::private_byte` meets its contract: an open section is asked, any other is refused.
+-- Assumes nothing.
+use mathlib.Core.Path.{sym, _∙_}
 use borrow.Author.Needs.{needs}
+use Rattle.reading.specs.Reading.{privateByte}
+use Rattle.reading.proofs.Asked.{when-open, when-refused}
 use Rattle.reading.proofs.private_byte.Statement.{statement}
 use Rattle.reading.proofs.private_byte.Tie as tie
-use Rattle.reading.proofs.private_byte.Reads as reads
-use Rattle.reading.proofs.private_byte.Lts as lts
-use Rattle.command_reading.proofs.private_byte.Reads as private-byte-reads
-use Rattle.section.proofs.open.Reads as open-reads
 
--- src/lib.rt:62:11
 open-requires : tie.Need-open-requires
 open-requires c κs = search needs
 
--- src/lib.rt:63:28
 enum-told : tie.Need-enum-told
 enum-told c = search needs
 
--- src/lib.rt:63:28
 private-byte-requires : tie.Need-private-byte-requires
 private-byte-requires c κs = search needs
 
--- src/lib.rt:64:25
 enum-known-refusal : tie.Need-enum-known-refusal
 enum-known-refusal c = search needs
 
--- src/lib.rt:59:1
 returns : tie.Need-returns
-returns c = ?
+unfolding privateByte
+returns c = c .private-byte .ensures ∙ sym (when-open _ _ _ (sym (c .before .before .before .«open» .ensures) ∙ c .before .enum-told .given .1))
 
--- src/lib.rt:59:1
 returns-2 : tie.Need-returns-2
-returns-2 c = ?
+unfolding privateByte
+returns-2 c = sym (when-refused _ _ _ (sym (c .before .before .before .«open» .ensures) ∙ c .before .refusal .given .1))
 
 pub private-byte-spec : {M : Type 1} → statement M
-private-byte-spec =
-    tie.close
-    (tie.spec open-requires enum-told private-byte-requires enum-known-refusal returns returns-2)
+private-byte-spec = tie.close (tie.spec open-requires enum-told private-byte-requires enum-known-refusal returns returns-2)
