@@ -9,3 +9,5 @@ pub mod SegmentationTold
 pub mod Small
 pub mod Tags
 pub mod Told
+pub mod EachStands
+pub mod UpidPart
