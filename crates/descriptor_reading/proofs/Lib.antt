@@ -11,3 +11,4 @@ pub mod Tags
 pub mod Told
 pub mod EachStands
 pub mod UpidPart
+pub mod Standing
