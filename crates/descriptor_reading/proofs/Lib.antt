@@ -9,3 +9,6 @@ pub mod SegmentationTold
 pub mod Small
 pub mod Tags
 pub mod Told
+pub mod EachStands
+pub mod UpidPart
+pub mod Standing

@@ -8,17 +8,27 @@ use Rattle.grammar.specs.Traces.{Trace}
 use Rattle.descriptors.specs.declared.Cursor.{Cursor}
 use Rattle.descriptor_reading.specs.declared.walk.Place.{Place}
 use Rattle.descriptor_reading.specs.Descriptor.{knownCursors, numbered, knownTrace}
-use Rattle.descriptor_reading.specs.Places.{Stands, placed}
+use Rattle.descriptor_reading.specs.Places.{Stands, placedAt, placed}
+
+module _ (s : List ℕ) (at : ℕ) (t : Trace) {place : Place} (h : placedAt s at t place) where
+  pub no-rows : place ≡ Place.Nowhere → t ≡ []
+  no-rows e = subst (placedAt s at t) e h
+
+  pub at-is : (k : ℕ) → place ≡ Place.At k → k ≡ at
+  at-is k e = subst (placedAt s at t) e h .0
+
+  pub stands-there : (k : ℕ) → place ≡ Place.At k → Stands s k t
+  stands-there k e = subst (placedAt s at t) e h .1
 
 module _ (s : List ℕ) (c : Cursor) (n : ℕ) {place : Place} (h : placed s c n place) where
   pub not-there : place ≡ Place.Nowhere → knownTrace s c n ≡ []
-  not-there e = subst (placed s c n) e h
+  not-there = no-rows s (numbered (knownCursors s c) n .at) (knownTrace s c n) h
 
   pub is-at : (at : ℕ) → place ≡ Place.At at → at ≡ numbered (knownCursors s c) n .at
-  is-at at e = subst (placed s c n) e h .0
+  is-at = at-is s (numbered (knownCursors s c) n .at) (knownTrace s c n) h
 
   pub stands-at : (at : ℕ) → place ≡ Place.At at → Stands s at (knownTrace s c n)
-  stands-at at e = subst (placed s c n) e h .1
+  stands-at = stands-there s (numbered (knownCursors s c) n .at) (knownTrace s c n) h
 
 -- a known descriptor has six bytes at least
 pub low-enough : (s : List ℕ) (at : ℕ) (t : Trace) → Stands s at t → at ≤ 4090

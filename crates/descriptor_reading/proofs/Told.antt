@@ -46,7 +46,7 @@ both {a′ = a′} {b} {b′} e h = ap (λ (c : Bool). c && b) e ∙ go a′ h
     go true q = q refl
     go false q = refl
 
-not-true : (b : Bool) → not b ≡ true → b ≡ false
+pub not-true : (b : Bool) → not b ≡ true → b ≡ false
 not-true true e = sym e
 not-true false e = refl
 

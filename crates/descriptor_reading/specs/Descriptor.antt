@@ -13,7 +13,8 @@ use Rattle.grammar.specs.Traces.{Trace, size}
 use Rattle.grammar.specs.Names.{isNamed, look, isSet, allOf, part}
 use Rattle.descriptors.specs.declared.Cursor.{Cursor}
 use Rattle.descriptors.specs.declared.Kind.{Kind}
-use Rattle.descriptors.specs.Walk.{kindOf}
+use Rattle.descriptors.specs.declared.Step.{Step}
+use Rattle.descriptors.specs.Walk.{kindOf, stepOf}
 use Rattle.descriptors.specs.Loop.{walked, traceAt}
 use Rattle.descriptor_reading.specs.declared.answers.Mode.{Mode}
 use Rattle.descriptor_reading.specs.declared.answers.Delivery.{Delivery}
@@ -58,6 +59,16 @@ numbered (c ∷ cs) (suc n) = numbered cs n
 -- the rows of known descriptor n, none where there is no such descriptor
 unfoldable pub knownTrace : List ℕ → Cursor → ℕ → Trace
 knownTrace s c n = traceAt s (numbered (knownCursors s c) n)
+
+-- the rows, where a step finds a known descriptor
+abbrev pub ofKnown : Step → Trace → Trace
+ofKnown (Step.Descriptor kind next) t = cond (isKnown kind) t []
+ofKnown Step.Done t = []
+ofKnown Step.Broken t = []
+
+-- the rows of the known descriptor that stands at a cursor, none where none stands there, in no more bytes than a section may have
+unfoldable pub standingTrace : List ℕ → Cursor → Trace
+standingTrace s c = cond (leb (length s) 4096) (ofKnown (stepOf s c) (traceAt s c)) []
 
 -- ---- the parts of a descriptor
 
@@ -114,6 +125,10 @@ descriptorOf t =
     (cond (isTag t 4) (Descriptor.Audio (look t "audio_count"))
     (Descriptor.Refused Refusal.NotHere)))))
 
+-- what stands at a cursor
+unfoldable pub standing : List ℕ → Cursor → Descriptor
+standing s c = descriptorOf (standingTrace s c)
+
 -- ---- by number
 
 -- the characters of the DTMF descriptor with the rows t
@@ -156,3 +171,7 @@ upidOf at t =
 -- the UPID of known descriptor n
 unfoldable pub upid : List ℕ → Cursor → ℕ → Upid
 upid s c n = upidOf (numbered (knownCursors s c) n .at) (knownTrace s c n)
+
+-- the UPID of what stands at a cursor
+unfoldable pub standingUpid : List ℕ → Cursor → Upid
+standingUpid s c = upidOf (c .at) (standingTrace s c)

@@ -2,7 +2,7 @@
 -- Assumes nothing.
 use mathlib.Core.Path.{_≡_}
 use Prim.Native.Nat.{ℕ, _+_, _*_, _≤_}
-use mathlib.Core.Bool.{Bool, true, cond, not, _&&_}
+use mathlib.Core.Bool.{true, cond, not, _&&_}
 use mathlib.Core.List.{List, [], _∷_, _++_}
 use lib.ListN.{length}
 use lib.Dec.{eqb, ltb}
@@ -46,10 +46,14 @@ pub record Stands (s : List ℕ) (at : ℕ) (t : Trace) : Type 0 where
       ++ (values (field 32 "identifier" ∷ []) (bit s) (8 * at + 16) ++ body)
   pub reads : read (tableOf (kindOf s at)) env (bit s) (8 * stop) (8 * (at + 6)) ≡ reached (8 * stop) body
 
--- known descriptor n stands at that byte, or there is none
+-- the descriptor with the rows t stands at byte `at`, and that is the answer; or there are no rows
+abbrev pub placedAt : List ℕ → ℕ → Trace → Place → Type 0
+placedAt s at t Place.Nowhere = t ≡ []
+placedAt s at t (Place.At k) = (k ≡ at) × Stands s k t
+
+-- known descriptor n
 abbrev pub placed : List ℕ → Cursor → ℕ → Place → Type 0
-placed s c n Place.Nowhere = knownTrace s c n ≡ []
-placed s c n (Place.At at) = (at ≡ numbered (knownCursors s c) n .at) × Stands s at (knownTrace s c n)
+placed s c n = placedAt s (numbered (knownCursors s c) n .at) (knownTrace s c n)
 
 -- ---- its parts, by the byte after the identifier
 

@@ -7,7 +7,7 @@ mod walk;
 
 ghost use mathlib.Core.Path.{_≡_};
 ghost use lib.ListN.{length};
-ghost use Rattle.descriptor_reading.specs.Descriptor.{knownCursors, knownTrace, descriptorOf, dtmfCharOf, segmentationComponentOf, audioComponentOf};
+ghost use Rattle.descriptor_reading.specs.Descriptor.{isKnown, knownCursors, knownTrace, standing, descriptorOf, dtmfCharOf, segmentationComponentOf, audioComponentOf, standingUpid};
 ghost use Rattle.descriptor_reading.specs.Descriptor as says;
 pub use answers::AudioComponent;
 pub use answers::Delivery;
@@ -21,8 +21,39 @@ pub use answers::SegmentationComponent;
 pub use answers::SubSegments;
 pub use answers::Upid;
 use descriptors::Cursor;
+use descriptors::Kind;
 use units::Refusal;
 use walk::Place;
+
+// Whether a kind is known.
+pub fn is_known(kind: Kind) -> bool
+    ensures { λ r. ⌜ r ≡ isKnown kind ⌝ }
+{
+    match kind {
+        Kind::Unknown => false,
+        _ => true,
+    }
+}
+
+// The known descriptor that stands at a cursor.
+pub fn descriptor_at(s: &[u8], cursor: Cursor) -> Descriptor
+    ensures { λ r. ⌜ r ≡ standing (now (s .entry)) cursor ⌝ }
+{
+    let Place::At(here) = walk::standing(s, cursor) else {
+        return Descriptor::Refused(Refusal::NotHere);
+    };
+    parts::descriptor(s, here)
+}
+
+// Where its UPID bytes lie.
+pub fn upid_at(s: &[u8], cursor: Cursor) -> Upid
+    ensures { λ r. ⌜ r ≡ standingUpid (now (s .entry)) cursor ⌝ }
+{
+    let Place::At(here) = walk::standing(s, cursor) else {
+        return Upid::Refused(Refusal::NotHere);
+    };
+    parts::upid(s, here)
+}
 
 // How many known descriptors there are.
 pub fn known_count(s: &[u8], cursor: Cursor) -> usize

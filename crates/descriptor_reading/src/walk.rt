@@ -1,10 +1,10 @@
 // The known descriptors that the walk from a cursor finds.
 ghost use mathlib.Core.Path.{_≡_};
 ghost use lib.ListN.{length};
-ghost use Rattle.descriptor_reading.specs.Descriptor.{isKnown, knownCursors};
-ghost use Rattle.descriptor_reading.specs.Places.{placed};
+ghost use Rattle.descriptor_reading.specs.Descriptor.{knownCursors, standingTrace};
+ghost use Rattle.descriptor_reading.specs.Places.{placed, placedAt};
+use crate::is_known;
 use descriptors::Cursor;
-use descriptors::Kind;
 use descriptors::Step;
 
 // Where a descriptor stands.
@@ -70,11 +70,18 @@ pub(crate) fn count(s: &[u8], cursor: Cursor) -> usize
     }
 }
 
-fn is_known(kind: Kind) -> bool
-    ensures { λ r. ⌜ r ≡ isKnown kind ⌝ }
+// Where a known descriptor stands, if one does at the cursor.
+pub(crate) fn standing(s: &[u8], cursor: Cursor) -> Place
+    ensures { λ r. ⌜ placedAt (now (s .entry)) (cursor .at) (standingTrace (now (s .entry)) cursor) r ⌝ }
 {
-    match kind {
-        Kind::Unknown => false,
-        _ => true,
+    if 4096 < s.len() {
+        return Place::Nowhere;
     }
+    let Step::Descriptor(kind, _) = cursor.step(s) else {
+        return Place::Nowhere;
+    };
+    if is_known(kind) {
+        return Place::At(cursor.at);
+    }
+    Place::Nowhere
 }

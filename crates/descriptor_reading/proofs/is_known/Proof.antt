@@ -1,4 +1,4 @@
--- `descriptor_reading::walk::is_known` meets its contract.
+-- `descriptor_reading::is_known` meets its contract.
 -- Assumes nothing.
 use mathlib.Core.Path.{_≡_, refl}
 use mathlib.Core.Bool.{true, false≢true}
@@ -11,8 +11,8 @@ use Rattle.descriptors.proofs.Kind as declared
 use Rattle.descriptors.proofs.Keys.{one-of}
 use Rattle.descriptors.specs.declared.Kind.{Kind}
 use Rattle.descriptor_reading.specs.Descriptor.{isKnown}
-use Rattle.descriptor_reading.proofs.walk.is_known.Statement.{statement}
-use Rattle.descriptor_reading.proofs.walk.is_known.Tie as tie
+use Rattle.descriptor_reading.proofs.is_known.Statement.{statement}
+use Rattle.descriptor_reading.proofs.is_known.Tie as tie
 
 -- the last variant is none of those of the other arm
 other : (kind : Kind) → OneOf (0 ∷ 1 ∷ 2 ∷ 3 ∷ 4 ∷ []) (tagOf declared.the-type kind) → true ≡ isKnown kind
