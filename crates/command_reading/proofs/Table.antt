@@ -1,6 +1,6 @@
 -- What was read of a section's command is what the table of its type reads.
 -- Assumes nothing.
-use mathlib.Core.Path.{_≡_, refl, sym, ap, _∙_}
+use mathlib.Core.Path.{_≡_, refl, ap}
 use mathlib.Core.Bool.{Bool, true, false, cond}
 use mathlib.Core.List.{List}
 use Prim.Native.Nat.{ℕ, _+_, _-_, _*_, _≤_}
@@ -9,7 +9,7 @@ use lib.ListN.{length}
 use lib.Dec.{leb, eqb}
 use borrow.Author.Tests.{leb-true}
 use Rattle.bits.specs.Bits.{bit, num}
-use Rattle.bits.proofs.Cases.{by-cases, and-left, and-right}
+use Rattle.bits.proofs.Cases.{and-left, and-right}
 use Rattle.grammar.specs.Syntax.{Test, Prog, done, stop, branch}
 use Rattle.grammar.specs.Meaning.{Env, valueOf, holds, Reading, broken, reached, read}
 use Rattle.grammar.specs.Tables.{bytes, private-command, command, sized-command, splice-schedule, splice-insert, splice-time}
@@ -69,7 +69,10 @@ pub record Read (s : List ℕ) (j : ℕ) (t : Trace) : Type 0 where
   pub stop : ℕ
   pub long : 20 ≤ length s
   pub fits : length s ≤ 4096
+  pub starts : 112 ≤ stop
   pub inside : stop ≤ 8 * (length s - 4)
+  pub octets : ℕ
+  pub whole : stop ≡ 8 * octets
   pub reads : read (tableOf (num (bit s) 104 8) private-command (bytes "command_byte")) (known s) (bit s) stop 112 ≡ reached j t
 
 of-size : (s : List ℕ) → isOfSize s ≡ true → (20 ≤ length s) × (length s ≤ 4096)
@@ -92,7 +95,10 @@ table-read s j t e = go (isOfSize s) refl e
           stop = 8 * (length s - 4);
           long = size .0;
           fits = size .1;
+          starts = omega arith;
           inside = omega arith;
+          octets = length s - 4;
+          whole = refl;
           reads =
               found (known s) (bit s) (8 * (length s - 4)) 112 j t type
               (by-type (known s) (bit s) (8 * (length s - 4)) 112 j t stop stop type refl (arm-parts true q h)) .reads;
@@ -103,7 +109,10 @@ table-read s j t e = go (isOfSize s) refl e
           stop = 112 + 8 * valueOf (known s) "splice_command_length";
           long = size .0;
           fits = size .1;
+          starts = omega arith;
           inside = part .2;
+          octets = 14 + valueOf (known s) "splice_command_length";
+          whole = omega arith;
           reads =
               by-type (known s) (bit s) (112 + 8 * valueOf (known s) "splice_command_length") 112 j t private-command (bytes "command_byte") type refl
               (part .0) .reads;

@@ -1,5 +1,11 @@
+pub mod Stands
+pub mod Known
+pub mod Placed
 pub mod Room
 pub mod Rows
 pub mod SegmentationNames
 pub mod SegmentationRows
 pub mod SegmentationTold
+pub mod Small
+pub mod Tags
+pub mod Told

@@ -49,6 +49,12 @@ pub struct Segmentation {
     pub sub_segments: SubSegments,
 }
 
+// How many known descriptors there are.
+pub enum KnownCount {
+    Count(usize),
+    Refused(Refusal),
+}
+
 // A known descriptor (Table 16).
 pub enum Descriptor {
     // With its provider_avail_id.

@@ -14,6 +14,7 @@ pub use answers::Delivery;
 pub use answers::Descriptor;
 pub use answers::DtmfChar;
 pub use answers::Duration;
+pub use answers::KnownCount;
 pub use answers::Mode;
 pub use answers::Segmentation;
 pub use answers::SegmentationComponent;

@@ -50,15 +50,15 @@ pub(crate) fn count(s: &[u8], cursor: Cursor) -> usize
     if 4096 < s.len() {
         return 0;
     }
-    let mut place = cursor;
+    let mut rest = cursor;
     let mut found = 0usize;
     loop {
-        match place.step(s) {
+        match rest.step(s) {
             Step::Descriptor(kind, next) => {
                 if is_known(kind) {
                     found += 1;
                 }
-                place = next;
+                rest = next;
             }
             Step::Done => {
                 return found;

@@ -9,6 +9,8 @@ ghost use Rattle.text.specs.Text;
 ghost use Rattle.text.specs.Text.{readInto, writeInto};
 ghost use Rattle.section.specs.Accept.{acceptOf};
 ghost use Rattle.sheet.specs.Sheet.{toSheet, toSheetInto, toSection, toSectionInto};
+ghost use Rattle.reading.specs.Reading as says;
+ghost use Rattle.flat.specs.Numbers.{given, givenInto, commandNumbers, insertComponentNumbers, eventNumbers, eventComponentNumbers, privateByteNumbers, knownCountNumbers, descriptorNumbers, dtmfCharNumbers, segmentationComponentNumbers, audioComponentNumbers, upidNumbers};
 ghost use Rattle.exports.specs.Wire.{wire, rowNumber};
 use section::Verdict;
 use units::Ticks;
@@ -64,6 +66,120 @@ pub extern "C" fn timpanimist_sheet_to_section(sheet: &[u64], out: &mut [u8]) ->
     ensures { λ r. ⌜ (r ≡ wire (toSection (now (sheet .entry)) (now (out .entry)))) × (now (out .exit) ≡ toSectionInto (now (sheet .entry)) (now (out .entry))) ⌝ }
 {
     number(sheet::to_section(sheet, out))
+}
+
+// The command of a section, as numbers: its case, and then the values of the case.
+#[no_mangle]
+pub extern "C" fn timpanimist_command(section: &[u8], out: &mut [u64]) -> u64
+    ensures { λ r. ⌜ (r ≡ wire (given (commandNumbers (says.command (now (section .entry)))) (now (out .entry)))) × (now (out .exit) ≡ givenInto (commandNumbers (says.command (now (section .entry)))) (now (out .entry))) ⌝ }
+{
+    let answer = reading::command(section);
+    number(flat::command(answer, out))
+}
+
+// Component n of a splice insert: its tag, and its time.
+#[no_mangle]
+pub extern "C" fn timpanimist_insert_component(section: &[u8], n: usize, out: &mut [u64]) -> u64
+    ensures { λ r. ⌜ (r ≡ wire (given (insertComponentNumbers (says.insertComponent (now (section .entry)) n)) (now (out .entry)))) × (now (out .exit) ≡ givenInto (insertComponentNumbers (says.insertComponent (now (section .entry)) n)) (now (out .entry))) ⌝ }
+{
+    let answer = reading::insert_component(section, n);
+    number(flat::insert_component(answer, out))
+}
+
+// Event n of a splice schedule: its case, and then the values of the case.
+#[no_mangle]
+pub extern "C" fn timpanimist_schedule_event(section: &[u8], n: usize, out: &mut [u64]) -> u64
+    ensures { λ r. ⌜ (r ≡ wire (given (eventNumbers (says.scheduleEvent (now (section .entry)) n)) (now (out .entry)))) × (now (out .exit) ≡ givenInto (eventNumbers (says.scheduleEvent (now (section .entry)) n)) (now (out .entry))) ⌝ }
+{
+    let answer = reading::schedule_event(section, n);
+    number(flat::schedule_event(answer, out))
+}
+
+// Component m of event n of a splice schedule: its tag, and its time.
+#[no_mangle]
+pub extern "C" fn timpanimist_event_component(
+    section: &[u8],
+    n: usize,
+    m: usize,
+    out: &mut [u64],
+) -> u64
+    ensures { λ r. ⌜ (r ≡ wire (given (eventComponentNumbers (says.eventComponent (now (section .entry)) n m)) (now (out .entry)))) × (now (out .exit) ≡ givenInto (eventComponentNumbers (says.eventComponent (now (section .entry)) n m)) (now (out .entry))) ⌝ }
+{
+    let answer = reading::event_component(section, n, m);
+    number(flat::event_component(answer, out))
+}
+
+// Byte n of a private command, after its identifier.
+#[no_mangle]
+pub extern "C" fn timpanimist_private_byte(section: &[u8], n: usize, out: &mut [u64]) -> u64
+    ensures { λ r. ⌜ (r ≡ wire (given (privateByteNumbers (says.privateByte (now (section .entry)) n)) (now (out .entry)))) × (now (out .exit) ≡ givenInto (privateByteNumbers (says.privateByte (now (section .entry)) n)) (now (out .entry))) ⌝ }
+{
+    let answer = reading::private_byte(section, n);
+    number(flat::private_byte(answer, out))
+}
+
+// How many known descriptors a section has.
+#[no_mangle]
+pub extern "C" fn timpanimist_known_count(section: &[u8], out: &mut [u64]) -> u64
+    ensures { λ r. ⌜ (r ≡ wire (given (knownCountNumbers (says.knownCount (now (section .entry)))) (now (out .entry)))) × (now (out .exit) ≡ givenInto (knownCountNumbers (says.knownCount (now (section .entry)))) (now (out .entry))) ⌝ }
+{
+    let answer = reading::known_count(section);
+    number(flat::known_count(answer, out))
+}
+
+// Known descriptor n: its case, and then the values of the case.
+#[no_mangle]
+pub extern "C" fn timpanimist_known_descriptor(section: &[u8], n: usize, out: &mut [u64]) -> u64
+    ensures { λ r. ⌜ (r ≡ wire (given (descriptorNumbers (says.knownDescriptor (now (section .entry)) n)) (now (out .entry)))) × (now (out .exit) ≡ givenInto (descriptorNumbers (says.knownDescriptor (now (section .entry)) n)) (now (out .entry))) ⌝ }
+{
+    let answer = reading::known_descriptor(section, n);
+    number(flat::known_descriptor(answer, out))
+}
+
+// Character m of known descriptor n, a DTMF descriptor.
+#[no_mangle]
+pub extern "C" fn timpanimist_dtmf_char(section: &[u8], n: usize, m: usize, out: &mut [u64]) -> u64
+    ensures { λ r. ⌜ (r ≡ wire (given (dtmfCharNumbers (says.dtmfChar (now (section .entry)) n m)) (now (out .entry)))) × (now (out .exit) ≡ givenInto (dtmfCharNumbers (says.dtmfChar (now (section .entry)) n m)) (now (out .entry))) ⌝ }
+{
+    let answer = reading::dtmf_char(section, n, m);
+    number(flat::dtmf_char(answer, out))
+}
+
+// Component m of known descriptor n, a segmentation descriptor: its tag, and its offset.
+#[no_mangle]
+pub extern "C" fn timpanimist_segmentation_component(
+    section: &[u8],
+    n: usize,
+    m: usize,
+    out: &mut [u64],
+) -> u64
+    ensures { λ r. ⌜ (r ≡ wire (given (segmentationComponentNumbers (says.segmentationComponent (now (section .entry)) n m)) (now (out .entry)))) × (now (out .exit) ≡ givenInto (segmentationComponentNumbers (says.segmentationComponent (now (section .entry)) n m)) (now (out .entry))) ⌝ }
+{
+    let answer = reading::segmentation_component(section, n, m);
+    number(flat::segmentation_component(answer, out))
+}
+
+// Component m of known descriptor n, an audio descriptor.
+#[no_mangle]
+pub extern "C" fn timpanimist_audio_component(
+    section: &[u8],
+    n: usize,
+    m: usize,
+    out: &mut [u64],
+) -> u64
+    ensures { λ r. ⌜ (r ≡ wire (given (audioComponentNumbers (says.audioComponent (now (section .entry)) n m)) (now (out .entry)))) × (now (out .exit) ≡ givenInto (audioComponentNumbers (says.audioComponent (now (section .entry)) n m)) (now (out .entry))) ⌝ }
+{
+    let answer = reading::audio_component(section, n, m);
+    number(flat::audio_component(answer, out))
+}
+
+// Where the UPID bytes of known descriptor n lie in the section, and how many they are.
+#[no_mangle]
+pub extern "C" fn timpanimist_upid(section: &[u8], n: usize, out: &mut [u64]) -> u64
+    ensures { λ r. ⌜ (r ≡ wire (given (upidNumbers (says.upid (now (section .entry)) n)) (now (out .entry)))) × (now (out .exit) ≡ givenInto (upidNumbers (says.upid (now (section .entry)) n)) (now (out .entry))) ⌝ }
+{
+    let answer = reading::upid(section, n);
+    number(flat::upid(answer, out))
 }
 
 // The whole milliseconds in t ticks of the 90 kHz clock.

@@ -1,7 +1,7 @@
 -- The field sheet: every field of a section as one number, in order, and the way back.
 -- Assumes nothing.
 use mathlib.Core.Path.{_≡_}
-use Prim.Native.Nat.{ℕ, zero, suc, _+_, _-_, _*_, _/_}
+use Prim.Native.Nat.{ℕ, _+_, _-_, _*_, _/_}
 use mathlib.Core.Bool.{Bool, true, false, cond, not, _&&_}
 use mathlib.Core.List.{List, [], _∷_, _++_}
 use lib.ListN.{length, take, drop, replicate}
@@ -9,7 +9,7 @@ use lib.Dec.{leb, ltb, eqb}
 use Rattle.bits.specs.Bits.{bit, writtenOf, writeAll}
 use Rattle.crc.specs.Crc.{crc32}
 use Rattle.units.specs.declared.refusals.Written.{Written}
-use Rattle.units.specs.Refusals.{first}
+use Rattle.units.specs.Refusals.{first, orElse}
 use Rattle.units.specs.Answers.{answer, memory}
 use Rattle.grammar.specs.Meaning.{read}
 use Rattle.grammar.specs.Tables.{splice-info-section}
@@ -32,11 +32,6 @@ unsized ns = take 4 ns ++ drop 5 ns
 -- the sheet of an accepted section
 unfoldable pub sheetOf : List ℕ → List ℕ
 sheetOf s = unsized (numbers (sectionTrace s))
-
--- the first of two rows that applies
-abbrev pub orElse : ℕ → ℕ → ℕ
-orElse zero b = b
-orElse (suc a) b = suc a
 
 -- rows 1 to 10, then ROOM
 unfoldable pub sheetRow : List ℕ → ℕ → ℕ

@@ -1,6 +1,6 @@
 -- The refusals of paper 01, by name and by number, and the first row of a table that applies.
 -- Assumes nothing.
-use Prim.Native.Nat.{ℕ, _-_}
+use Prim.Native.Nat.{ℕ, zero, suc, _-_}
 use mathlib.Core.Bool.{Bool, cond}
 use mathlib.Core.List.{List, [], _∷_}
 use lib.ListN.{getD}
@@ -41,3 +41,8 @@ named n = getD table (n - 1) Short
 abbrev pub first : List (Bool × ℕ) → ℕ
 first [] = 0
 first (row ∷ rows) = cond (row .0) (row .1) (first rows)
+
+-- the first of two rows that applies
+abbrev pub orElse : ℕ → ℕ → ℕ
+orElse zero b = b
+orElse (suc a) b = suc a

@@ -1,130 +1,25 @@
--- `section::first_cursor` meets its contract: each way out is a case of the definition.
+-- `section::first_cursor` meets its contract: the cursor at which the section opens, or none.
 -- Assumes nothing.
-use mathlib.Core.Path.{_≡_, sym, ap, _∙_}
-use Prim.Native.Nat.{ℕ, _+_, _*_, _≤_}
-use native.Mathlib.Omega.{arith}
-use lib.ListN.{length}
-use Rattle.bits.specs.Bits.{bit, num}
-use Rattle.bits.proofs.Bytes.{AreBytes, num-room}
-use Rattle.bits.proofs.Within.{field-there}
-use Rattle.grammar.specs.Meaning.{ends}
-use Rattle.grammar.specs.Ended.{outcome}
-use Rattle.commands.specs.Command.{commandEnd}
-use Rattle.section.specs.declared.Verdict.the-variants.{Accepted}
-use Rattle.section.specs.Accept.{acceptOf}
-use Rattle.section.proofs.Rows.{clear, sealed}
-use Rattle.section.proofs.Accepted.{Allowed, accepted}
-use Rattle.section.proofs.Start.{command-within, no-section, when-sealed, no-command, after-command}
+use mathlib.Core.Path.{sym, _∙_}
 use borrow.Author.Needs.{needs}
+use Rattle.section.proofs.Asked.{is-open, not-open}
 use Rattle.section.proofs.first_cursor.Statement.{statement}
 use Rattle.section.proofs.first_cursor.Tie as tie
 
--- the section is accepted
-allowed : (t : tie.After-enum-told) → acceptOf (t .before .before .before .before .args .s .now) ≡ Accepted
-allowed t = sym (t .before .before .accept .ensures) ∙ t .enum-told .given .1
+open-requires : tie.Need-open-requires
+open-requires c κs = search needs
 
-enough : (t : tie.After-enum-told) → Allowed (t .before .before .before .before .args .s .now)
-enough t = accepted (t .before .before .before .before .args .s .now) (allowed t)
-
--- where its command ends
-ended : (t : tie.After-at) → commandEnd (t .before .before .before .before .before .before .before .before .before .args .s .now) ≡ ends (8 * t .at .given .0 .0)
-ended t = sym (t .before .before .command-end .ensures) ∙ ap outcome (t .at .given .1)
-
-inside : (t : tie.After-at) → (t .at .given .0 .0 + 4 ≤ length (t .before .before .before .before .before .before .before .before .before .args .s .now)) × (length (t .before .before .before .before .before .before .before .before .before .args .s .now) ≤ 4096)
-inside t =
-    let a = enough (t .before .before .before .before .before) in
-    (command-within _ _ (a .long) (ended t) .1, a .fits)
-
--- the loop's length, as the code reads it
-given-length : (t : tie.After-pair) →
-    num (bit (t .before .before .before .before .before .before .before .before .before .before .before .args .s .now)) (8 * t .before .before .at .given .0 .0) 16
-    ≡ t .pair .result
-given-length t =
-    let s = t .before .before .before .before .before .before .before .before .before .before .before .args .s .now in
-    let k : ℕ = 8 * t .before .before .at .given .0 .0 in
-    let l = inside (t .before .before) in
-    sym (t .pair .ensures ∙ field-there s k 16 (omega arith) (omega arith))
-
-accept-requires : tie.Need-accept-requires
-accept-requires c κs = search needs
+enum-known-cursor : tie.Need-enum-known-cursor
+enum-known-cursor c = search needs
 
 enum-told : tie.Need-enum-told
 enum-told c = search needs
 
-enum-told-2 : tie.Need-enum-told-2
-enum-told-2 c = search needs
-
 returns : tie.Need-returns
-returns c = sym (no-section _ _ (sym (c .before .before .accept .ensures) ∙ c .enum-told2 .given .1))
-
-shared-slice-read-if1 : tie.Need-shared-slice-read-if1
-shared-slice-read-if1 c = omega (arith, enough (c .before) .long)
+returns c = sym (not-open _ _ (sym (c .before .before .«open» .ensures) ∙ c .enum-told .given .1))
 
 returns-2 : tie.Need-returns-2
-returns-2 c =
-    let t = c .before .before in
-    let s = t .before .before .before .before .args .s .now in
-    let hs : AreBytes s = λ i. (c .before .shared-slice-known2 .given i) .fits in
-    sym (when-sealed s (allowed t) (sealed s hs (c .if1 .taken)))
-
-command-end-requires : tie.Need-command-end-requires
-command-end-requires c κs = search needs
-
-enum-known-at : tie.Need-enum-known-at
-enum-known-at c = search needs
-
-enum-told-3 : tie.Need-enum-told-3
-enum-told-3 c = search needs
-
-returns-3 : tie.Need-returns-3
-returns-3 c =
-    let e = c .before .before .before in
-    let t = e .before .before in
-    let s = t .before .before .before .before .args .s .now in
-    let hs : AreBytes s = λ i. (e .before .shared-slice-known2 .given i) .fits in
-    sym (no-command s (allowed t) (clear s hs (e .if1 .left)) 0 (sym (c .before .before .command-end .ensures) ∙ ap outcome (c .enum-told3 .given .1)))
-
-pair-requires : tie.Need-pair-requires
-pair-requires c κs = search needs
-
-add-t10 : tie.Need-add-t10
-add-t10 c = omega (arith, inside (c .before .before))
-
-add-t11 : tie.Need-add-t11
-add-t11 c = omega (arith, inside (c .before .before))
-
-add-t12 : tie.Need-add-t12
-add-t12 c =
-    let s = c .before .before .before .before .before .before .before .before .before .before .before .args .s .now in
-    omega (arith, inside (c .before .before), given-length c, num-room s (8 * c .before .before .at .given .0 .0) 2 (omega arith))
-
-returns-4 : tie.Need-returns-4
-returns-4 c =
-    let a = c .before .before in
-    let e = a .before .before .before in
-    let t = e .before .before in
-    let s = t .before .before .before .before .args .s .now in
-    let hs : AreBytes s = λ i. (e .before .shared-slice-known2 .given i) .fits in
-    let n : ℕ = a .at .given .0 .0 in
-    ap (λ (w : ℕ). record { at = n + 2; end = n + 2 + w }) (sym (given-length c))
-    ∙ sym (after-command s (allowed t) (clear s hs (e .if1 .left)) n (ended a))
+returns-2 c = is-open _ _ (sym (c .before .before .before .«open» .ensures) ∙ c .before .cursor .given .1) .cursor
 
 pub first-cursor-spec : {M : Type 1} → statement M
-first-cursor-spec =
-    tie.close
-    (tie.spec
-    accept-requires
-    enum-told
-    enum-told-2
-    returns
-    shared-slice-read-if1
-    returns-2
-    command-end-requires
-    enum-known-at
-    enum-told-3
-    returns-3
-    pair-requires
-    add-t10
-    add-t11
-    add-t12
-    returns-4)
+first-cursor-spec = tie.close (tie.spec open-requires enum-known-cursor enum-told returns returns-2)

@@ -1,0 +1,1 @@
+// The demands on the whole library, as theorems; there is no code of its own here.
