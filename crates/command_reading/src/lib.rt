@@ -9,7 +9,6 @@ ghost use Rattle.grammar.specs.Meaning.{endOf};
 ghost use Rattle.grammar.specs.Ended.{outcome};
 ghost use Rattle.command_reading.specs.Command.{commandReading, commandTrace, insertComponentOf, eventOf, eventComponentOf, privateByteOf};
 ghost use Rattle.command_reading.specs.Command as says;
-
 pub use answers::Avails;
 pub use answers::BreakDuration;
 pub use answers::Command;
@@ -22,7 +21,6 @@ pub use answers::Mode;
 pub use answers::PrivateByte;
 pub use answers::ScheduledEvent;
 pub use answers::SpliceTime;
-
 use grammar::Ended;
 use lists::Span;
 use units::Refusal;

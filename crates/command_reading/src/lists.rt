@@ -33,7 +33,10 @@ fn insert_component(s: &[u8], at: usize, immediate: bool) -> InsertComponent
         };
     }
     let time = parts::splice_time(s, at + 1);
-    InsertComponent::Component { component_tag, time }
+    InsertComponent::Component {
+        component_tag,
+        time,
+    }
 }
 
 // Where event n of the section's schedule stands.
