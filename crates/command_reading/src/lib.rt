@@ -76,7 +76,7 @@ pub fn insert_component(s: &[u8], n: usize) -> InsertComponent
 pub fn schedule_event(s: &[u8], n: usize) -> Event
     ensures { λ r. ⌜ r ≡ eventOf (commandTrace (now (s .entry))) n ⌝ }
 {
-    let Span::Of(at, end) = lists::span(s, n) else {
+    let Span::Of(at, end) = lists::event_span(s, n) else {
         return Event::Refused(Refusal::NotHere);
     };
     lists::event(s, at, end)
@@ -86,7 +86,7 @@ pub fn schedule_event(s: &[u8], n: usize) -> Event
 pub fn event_component(s: &[u8], n: usize, m: usize) -> EventComponent
     ensures { λ r. ⌜ r ≡ eventComponentOf (commandTrace (now (s .entry))) n m ⌝ }
 {
-    let Span::Of(at, _) = lists::span(s, n) else {
+    let Span::Of(at, _) = lists::event_span(s, n) else {
         return EventComponent::Refused(Refusal::NotHere);
     };
     lists::event_component(s, at, m)

@@ -14,14 +14,14 @@ use units::EventId;
 use units::Refusal;
 
 // The bytes of an event of a schedule.
-enum Span {
+pub(crate) enum Span {
     // From one byte up to another.
     Of(usize, usize),
     Nowhere,
 }
 
 // Table 10, the component that stands from byte `at` on.
-fn insert_component(s: &[u8], at: usize, immediate: bool) -> InsertComponent
+pub(crate) fn insert_component(s: &[u8], at: usize, immediate: bool) -> InsertComponent
     requires { ⌜ at ≤ 4095 ⌝ }
     ensures { λ r. ⌜ r ≡ insertComponentAt (now (s .entry)) at immediate ⌝ }
 {
@@ -40,7 +40,7 @@ fn insert_component(s: &[u8], at: usize, immediate: bool) -> InsertComponent
 }
 
 // Where event n of the section's schedule stands.
-fn span(s: &[u8], n: usize) -> Span
+pub(crate) fn event_span(s: &[u8], n: usize) -> Span
     ensures { λ r. ⌜ eventIs (now (s .entry)) n r ⌝ }
 {
     let Ended::At(end) = crate::end(s) else {
@@ -63,7 +63,7 @@ fn span(s: &[u8], n: usize) -> Span
 }
 
 // Table 9, the event that stands from byte `at` up to `end`.
-fn event(s: &[u8], at: usize, end: usize) -> Event
+pub(crate) fn event(s: &[u8], at: usize, end: usize) -> Event
     requires { ⌜ (at ≤ 4096) × (9 ≤ end) × (end ≤ 4096) ⌝ }
     ensures { λ r. ⌜ r ≡ eventAt (now (s .entry)) at end ⌝ }
 {
@@ -112,7 +112,7 @@ fn component_count(s: &[u8], at: usize) -> usize
 }
 
 // Table 9, component m of the event that stands from byte `at` on.
-fn event_component(s: &[u8], at: usize, m: usize) -> EventComponent
+pub(crate) fn event_component(s: &[u8], at: usize, m: usize) -> EventComponent
     requires { ⌜ at ≤ 4096 ⌝ }
     ensures { λ r. ⌜ r ≡ eventComponentAt (now (s .entry)) at m ⌝ }
 {
