@@ -22,7 +22,7 @@ module _ (s : List ℕ) (n m : ℕ) where
   none h =
       sym
       (ap (λ (there : Bool). eventComponentIn (cond there (part "splice_event_id" n (commandTrace s)) []) m) h
-      ∙ ap (λ (b : Bool). cond b (EventComponent.Component 0 0) (EventComponent.Refused Refusal.NotHere)) (le-ltb m 0 (omega arith)))
+      ∙ rw (le-ltb m 0 (omega arith)))
 
   one : (at end : ℕ) → eventIs s n (Span.Of at end) → eventComponentAt s at m ≡ eventComponentOf (commandTrace s) n m
   unfolding eventComponentOf
