@@ -5,3 +5,9 @@ pub mod Avails
 pub mod Insert
 pub mod Private
 pub mod Said
+pub mod Shorter
+pub mod Firsts
+pub mod Component
+pub mod Components
+pub mod Nothing
+pub mod ComponentAt

@@ -52,11 +52,11 @@ module _ (s : List ℕ) (end : ℕ) (t : Trace) (e : commandReading s ≡ reache
   pub came : Read s (8 * end) t
   came = table-read s (8 * end) t e
 
-  fits : came .stop ≤ 8 * length s
+  pub fits : came .stop ≤ 8 * length s
   fits = let x = came in omega arith
 
   -- by the table of its type
-  by-table : (v : ℕ) → num (bit s) 104 8 ≡ v → read (tableOf v private-command (bytes "command_byte")) (known s) (bit s) (came .stop) 112 ≡ reached (8 * end) t
+  pub by-table : (v : ℕ) → num (bit s) 104 8 ≡ v → read (tableOf v private-command (bytes "command_byte")) (known s) (bit s) (came .stop) 112 ≡ reached (8 * end) t
   by-table v h = rw h at (came .reads)
 
   -- it ends before the CRC
