@@ -26,7 +26,7 @@ use Rattle.command_reading.specs.declared.answers.SpliceTime.{SpliceTime
 use Rattle.command_reading.specs.declared.answers.InsertComponent.{InsertComponent}
 use Rattle.command_reading.specs.Command.{commandReading, typed, commandTrace, timeOf, insertComponentOf}
 use Rattle.command_reading.specs.Places.{flagAt, timeAt, insertComponentAt}
-use Rattle.command_reading.proofs.Said.{came, bounds, fits, by-table}
+use Rattle.command_reading.proofs.Said.{came, bounds, fits, by-table, trace-is}
 use Rattle.command_reading.proofs.Firsts.{first-end}
 use Rattle.command_reading.proofs.Component.{Component, knowing, component-tells}
 use Rattle.command_reading.proofs.Components.{counted, one, Listed, Insert, insert-lists}
@@ -39,13 +39,9 @@ opened s end k =
     (knowing (fieldOf s 155 1)) (bit s) (8 * end) k
 
 module _ (s : List ℕ) (end n : ℕ) (t : Trace) (e : commandReading s ≡ reached (8 * end) t) where
-  trace : commandTrace s ≡ typed s t
-  unfolding commandTrace traceOf
-  trace = ap (λ (r : Reading). typed s (traceOf r)) e
-
   pub not-insert : (num (bit s) 104 8 ≡ 0x05 → ⊥) → InsertComponent.Refused Refusal.NotHere ≡ insertComponentOf (commandTrace s) n
   unfolding insertComponentOf typed values look
-  not-insert h = sym (ap (λ (u : Trace). insertComponentOf u n) trace ∙ rw (ne-eqb _ 0x05 h))
+  not-insert h = sym (ap (λ (u : Trace). insertComponentOf u n) (trace-is s end t e) ∙ rw (ne-eqb _ 0x05 h))
 
   module _ (h : num (bit s) 104 8 ≡ 0x05) where
     told : Insert s end t
@@ -56,7 +52,7 @@ module _ (s : List ℕ) (end n : ℕ) (t : Trace) (e : commandReading s ≡ reac
     unfolding insertComponentOf typed values look
     absent l =
         let x = told in
-        sym (ap (λ (u : Trace). insertComponentOf u n) trace ∙ rw (h, le-ltb n (look t "component_count") (omega arith)))
+        sym (ap (λ (u : Trace). insertComponentOf u n) (trace-is s end t e) ∙ rw (h, le-ltb n (look t "component_count") (omega arith)))
 
     module _ (goes : flagAt s 144 ≡ false) (apart : flagAt s 153 ≡ false) (l : n < fieldOf s 160 8) where
       list : Listed s end t
@@ -101,6 +97,6 @@ module _ (s : List ℕ) (end n : ℕ) (t : Trace) (e : commandReading s ≡ reac
           let later = time at (part "component_tag" n (typed s t)) (λ g. ap timeOf is ∙ c .time g (y .rest)) in (
             omega arith,
             sym
-                (ap (λ (u : Trace). insertComponentOf u n) trace
+                (ap (λ (u : Trace). insertComponentOf u n) (trace-is s end t e)
                 ∙ rw test (λ i. InsertComponent.Component (tag i) (later i))),
           )

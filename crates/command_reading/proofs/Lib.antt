@@ -11,3 +11,4 @@ pub mod Component
 pub mod Components
 pub mod Nothing
 pub mod ComponentAt
+pub mod ByteAt

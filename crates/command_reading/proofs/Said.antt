@@ -48,6 +48,10 @@ unfolding splice-schedule values look
 count-tells s env stop = rows (λ m. some (λ j e. refl))
 
 module _ (s : List ℕ) (end : ℕ) (t : Trace) (e : commandReading s ≡ reached (8 * end) t) where
+  pub trace-is : commandTrace s ≡ typed s t
+  unfolding commandTrace traceOf
+  trace-is = ap (λ (r : Reading). typed s (traceOf r)) e
+
   -- how the command was read
   pub came : Read s (8 * end) t
   came = table-read s (8 * end) t e
