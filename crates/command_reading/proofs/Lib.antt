@@ -12,3 +12,5 @@ pub mod Components
 pub mod Nothing
 pub mod ComponentAt
 pub mod ByteAt
+pub mod Event
+pub mod EventAt
