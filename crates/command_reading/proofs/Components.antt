@@ -4,12 +4,12 @@ use mathlib.Core.Path.{_≡_, refl, sym, ap, _∙_}
 use mathlib.Core.Bool.{true, false, cond, false≢true}
 use mathlib.Core.List.{List, [], _∷_, _++_, append-nil}
 use mathlib.Core.Logic.{⊎-elim}
-use Prim.Native.Nat.{ℕ, _+_, _*_, _≤_}
+use Prim.Native.Nat.{ℕ, _*_, _≤_}
 use native.Mathlib.Omega.{arith}
 use lib.ListN.{length}
 use lib.Dec.{eqb}
 use Rattle.bits.specs.Bits.{bit, num, fieldOf}
-use Rattle.grammar.specs.Syntax.{Prog, Item, field, reserved, is, done, branch}
+use Rattle.grammar.specs.Syntax.{Item, field, reserved, is, done, branch}
 use Rattle.grammar.specs.Meaning.{Env, valueOf, values, bind, Reading, reached, again, read}
 use Rattle.grammar.specs.Tables.{splice-time, break-duration, avail-numbers, avails, insert-component, insert-times, splice-insert}
 use Rattle.grammar.specs.Traces.{Trace, traceOf}
