@@ -43,6 +43,7 @@ pub record Listed (s : List ℕ) (end : ℕ) (t : Trace) : Type 0 where
   pub reads : again (fieldOf s 160 8) (one s end) 168 ≡ reached last list
   pub parts : (n : ℕ) → part "component_tag" n (typed s t) ≡ part "component_tag" n (list ++ rest)
 
+-- what the rows t of the insert say of them
 pub record Insert (s : List ℕ) (end : ℕ) (t : Trace) : Type 0 where
   pub count : look t "component_count" ≡ counted s
   pub immediate : flagAt s 144 ≡ false → isSet t "splice_immediate_flag" ≡ flagAt s 155
