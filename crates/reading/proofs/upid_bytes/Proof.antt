@@ -1,48 +1,49 @@
+-- `reading::upid_bytes` meets its contract: the part that `upid` names lies in the section.
+-- Assumes nothing.
+use mathlib.Core.Path.{_≡_, sym, ap, _∙_}
+use Prim.Native.Nat.{ℕ, _+_, _≤_}
+use native.Mathlib.Omega.{arith}
+use lib.ListN.{length}
 use borrow.Author.Needs.{needs}
+use Rattle.reading.specs.Reading.{partOf, upidBytes}
+use Rattle.reading.proofs.UpidBytes.{part-within}
 use Rattle.reading.proofs.upid_bytes.Statement.{statement}
 use Rattle.reading.proofs.upid_bytes.Tie as tie
-use Rattle.reading.proofs.upid_bytes.Reads as reads
-use Rattle.reading.proofs.upid_bytes.Lts as lts
-use Rattle.reading.proofs.upid.Reads as upid-reads
 
--- src/lib.rt:132:34
+-- where the part ends
+within : (t : tie.After-at) → t .at .given .0 .0 + t .at .given .0 .1 ≤ length (t .before .before .before .before .args .section .now)
+within t = part-within _ _ _ _ (sym (t .before .before .upid .ensures) ∙ t .at .given .1)
+
 upid-requires : tie.Need-upid-requires
 upid-requires c κs = search needs
 
--- src/lib.rt:132:20
 enum-known-at : tie.Need-enum-known-at
 enum-known-at c = search needs
 
--- src/lib.rt:133:16
 enum-told : tie.Need-enum-told
 enum-told c = search needs
 
--- src/lib.rt:133:9
 slice-aggregate-result : tie.Need-slice-aggregate-result
 slice-aggregate-result c = search needs
 
--- src/lib.rt:133:9
 returns : tie.Need-returns
-returns c = ?
+unfolding upidBytes partOf
+returns c = sym (ap (partOf _) (sym (c .before .before .before .upid .ensures) ∙ c .before .enum-told .given .1))
 
--- src/lib.rt:135:15
 add-end : tie.Need-add-end
-add-end c = ?
+add-end c = omega (arith, within (c .before))
 
--- src/lib.rt:136:5
 sub-result : tie.Need-sub-result
 sub-result c = search needs
 
--- src/lib.rt:136:5
 part-result-start : tie.Need-part-result-start
 part-result-start c = search needs
 
--- src/lib.rt:136:5
 part-result-end : tie.Need-part-result-end
-part-result-end c = ?
+part-result-end c = within (c .before)
 
--- src/lib.rt:129:1
 returns-2 : tie.Need-returns-2
+unfolding upidBytes partOf
 returns-2 c = ?
 
 pub upid-bytes-spec : {M : Type 1} → statement M
