@@ -1,40 +1,22 @@
 -- The bytes of a private command by their number: after its identifier, up to its end.
 -- Assumes nothing.
-<<<<<<< HEAD
-use mathlib.Core.Path.{_≡_, refl, sym, ap, _∙_}
-use mathlib.Core.Bool.{Bool, true, false, cond}
-=======
 use mathlib.Core.Path.{_≡_, sym, ap, _∙_}
 use mathlib.Core.Bool.{Bool, cond}
->>>>>>> cc6cef68e540083458e0b81f8a476b94207c5ef3
 use mathlib.Core.List.{List, [], append-nil}
 use Prim.Native.Nat.{ℕ, _+_, _-_, _*_, _≤_, _<_}
 use native.Mathlib.Omega.{arith}
 use lib.ListN.{length, getD}
-<<<<<<< HEAD
-use lib.Dec.{ltb, eqb}
-use borrow.Author.Tests.{eq-eqb, ne-eqb, le-ltb, lt-ltb}
-use Rattle.bits.specs.Bits.{bit, num}
-use Rattle.units.specs.declared.refusals.Refusal.{Refusal}
-use Rattle.grammar.specs.Meaning.{values, Reading, reached}
-use Rattle.grammar.specs.Traces.{Trace, traceOf}
-=======
 use lib.Dec.{ltb}
 use borrow.Author.Tests.{eq-eqb, ne-eqb, le-ltb, lt-ltb}
 use Rattle.bits.specs.Bits.{bit, num}
 use Rattle.units.specs.declared.refusals.Refusal.{Refusal}
 use Rattle.grammar.specs.Meaning.{values, reached}
 use Rattle.grammar.specs.Traces.{Trace}
->>>>>>> cc6cef68e540083458e0b81f8a476b94207c5ef3
 use Rattle.grammar.specs.Names.{look, allOf}
 use Rattle.grammar.proofs.Names.{fieldsFrom, fields-length, fields-at}
 use Rattle.grammar.proofs.Places.{octet}
 use Rattle.command_reading.specs.declared.answers.PrivateByte.{PrivateByte}
-<<<<<<< HEAD
-use Rattle.command_reading.specs.Command.{commandReading, typed, commandTrace, privateBytes, privateByteOf}
-=======
 use Rattle.command_reading.specs.Command.{commandReading, typed, commandTrace, privateByteOf}
->>>>>>> cc6cef68e540083458e0b81f8a476b94207c5ef3
 use Rattle.command_reading.proofs.Said.{trace-is, private-rows}
 
 -- byte n of these

@@ -11,10 +11,6 @@ use Rattle.grammar.specs.Traces.{Trace, traceOf}
 use Rattle.grammar.specs.Ended.{outcome}
 use Rattle.grammar.proofs.Places.{octet}
 use Rattle.command_reading.specs.Command.{commandReading}
-<<<<<<< HEAD
-use Rattle.commands.specs.Command.{eventPlace}
-=======
->>>>>>> cc6cef68e540083458e0b81f8a476b94207c5ef3
 use Rattle.command_reading.proofs.Said.{reached-at, bounds}
 use Rattle.command_reading.proofs.Nothing as nothing
 use Rattle.command_reading.proofs.EventAt.{not-schedule, no-event, somewhere, event-at}

@@ -1,9 +1,5 @@
 -- `command_reading::lists::insert_component` meets its contract.
 -- Assumes nothing.
-<<<<<<< HEAD
-use mathlib.Core.Path.{sym, _∙_}
-=======
->>>>>>> cc6cef68e540083458e0b81f8a476b94207c5ef3
 use Prim.Native.Nat.{_*_}
 use native.Mathlib.Omega.{arith}
 use Rattle.bits.proofs.Fields.{field-lt}
