@@ -14,22 +14,10 @@ use Rattle.grammar.specs.Syntax.{Item, Test, Prog, field, reserved, is, 
 use Rattle.grammar.specs.Meaning.{Env, valueOf, widthOf, width, values, bind, bindOne, holds, Reading, broken, reached, after, then, again, sweep, exactly, numbered, read}
 use Rattle.grammar.specs.Traces.{Trace, rowsOf, size, numbers, joined, keeps, blankValue, blank}
 use Rattle.grammar.specs.Tables.{splice-descriptor}
-use Rattle.grammar.proofs.Traces.{numbers-append, bind-named}
+use Rattle.grammar.proofs.Traces.{numbers-append, bind-named, blank-append, blank-rows}
 use Rattle.grammar.proofs.Ends.{covers}
 use Rattle.grammar.proofs.Endless.{asksNoEnd, endless, same-test}
 use Rattle.grammar.proofs.Readings.{if-parts, after-parts, then-parts, numbered-parts, exactly-parts, Reads, rows-parts}
-
--- ---- reserved values set to 0
-
-pub blank-append : (t u : Trace) → blank (t ++ u) ≡ blank t ++ blank u
-unfolding blank
-blank-append [] u = refl
-blank-append (x ∷ t) u = ap (λ (v : Trace). (x .0, blankValue (x .0) (x .1)) ∷ v) (blank-append t u)
-
-pub blank-rows : (t : Trace) → rowsOf (blank t) ≡ rowsOf t
-unfolding blank rowsOf
-blank-rows [] = refl
-blank-rows (x ∷ t) = ap (λ (rows : List Item). x .0 ∷ rows) (blank-rows t)
 
 -- ---- what is claimed of two readings
 
@@ -286,7 +274,7 @@ abbrev pub AllBlanked : Prog → Env → List Trace → Type 0
 AllBlanked p env [] = Unit {0}
 AllBlanked p env (b ∷ bs) = Blanked p env b × AllBlanked p env bs
 
--- a table that opens with a row has a number to tell each of its traces by
+-- the table opens with a row, so none of its traces is without a number
 module _ (i : Item) (rows : List Item) (p : Prog) (env : Env) (free : endless p ≡ true) where
   some : (b : Trace) → Blanked (fields (i ∷ rows) p) env b → (x : ℕ) × (xs : List ℕ) × (numbers b ≡ x ∷ xs)
   unfolding values blank numbers
@@ -315,7 +303,7 @@ module _ (i : Item) (rows : List Item) (p : Prog) (env : Env) (free : endless p 
       (ap (λ (t : Trace). numbers t ++ numbers (joined bs)) (sym (h .0 .is)) ∙ split ∙ ap (λ (t : Trace). numbers t ++ numbers (joined bs′)) (h′ .0 .is)) in
       ap₂ (λ (t : Trace) (ts : List Trace). t ∷ ts) (h .0 .is ∙ d .0 ∙ sym (h′ .0 .is)) (lists-determined bs bs′ (h .1) (h′ .1) (d .1))
 
--- so are descriptors, one after another
+-- descriptors, one after another
 pub descriptors-determined : (bs bs′ : List Trace) → AllBlanked splice-descriptor [] bs → AllBlanked splice-descriptor [] bs′
     → numbers (joined bs) ≡ numbers (joined bs′) → bs ≡ bs′
 unfolding splice-descriptor endless
