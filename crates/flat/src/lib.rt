@@ -32,7 +32,7 @@ pub fn command(answer: Command, out: &mut [u64]) -> Written
         Command::Schedule(splice_count) => give(&[1, splice_count as u64], out),
         Command::Insert(insert) => give_insert(insert, out),
         Command::CancelledInsert(id) => give(&[3, id.0 as u64], out),
-        Command::TimeSignal(time) => give_time_signal(time, out),
+        Command::TimeSignal(time) => give_timed(4, time, out),
         Command::BandwidthReservation => give(&[5], out),
         Command::Private(identifier, count) => give(&[6, identifier as u64, count as u64], out),
         Command::Unread => give(&[7], out),
@@ -48,11 +48,13 @@ fn give_insert(insert: Insert, out: &mut [u64]) -> Written
     give(&list[..n], out)
 }
 
-fn give_time_signal(time: SpliceTime, out: &mut [u64]) -> Written
-    ensures { λ r. ⌜ (r ≡ given (these (4 ∷ timeNumbers time)) (now (out .entry))) × (now (out .exit) ≡ givenInto (these (4 ∷ timeNumbers time)) (now (out .entry))) ⌝ }
+// A number and then a time.
+fn give_timed(first: u64, time: SpliceTime, out: &mut [u64]) -> Written
+    ensures { λ r. ⌜ (r ≡ given (these (first ∷ timeNumbers time)) (now (out .entry))) × (now (out .exit) ≡ givenInto (these (first ∷ timeNumbers time)) (now (out .entry))) ⌝ }
 {
-    let mut list = [4u64; 3];
-    let n = lists::time(&mut list, 1, time);
+    let mut list = [0u64; 3];
+    let n = lists::put(&mut list, 0, &[first]);
+    let n = lists::time(&mut list, n, time);
     give(&list[..n], out)
 }
 
@@ -64,18 +66,9 @@ pub fn insert_component(answer: InsertComponent, out: &mut [u64]) -> Written
         InsertComponent::Component {
             component_tag,
             time,
-        } => give_component(component_tag, time, out),
+        } => give_timed(component_tag as u64, time, out),
         InsertComponent::Refused(refusal) => Written::Refused(refusal),
     }
-}
-
-fn give_component(component_tag: u8, time: SpliceTime, out: &mut [u64]) -> Written
-    ensures { λ r. ⌜ (r ≡ given (these («component_tag» ∷ timeNumbers time)) (now (out .entry))) × (now (out .exit) ≡ givenInto (these («component_tag» ∷ timeNumbers time)) (now (out .entry))) ⌝ }
-{
-    let mut list = [0u64; 3];
-    list[0] = component_tag as u64;
-    let n = lists::time(&mut list, 1, time);
-    give(&list[..n], out)
 }
 
 // An event of a schedule.
@@ -225,8 +218,5 @@ fn give(numbers: &[u64], out: &mut [u64]) -> Written
     if out.len() < numbers.len() {
         return Written::Refused(Refusal::Room);
     }
-    for i in 0..numbers.len() {
-        out[i] = numbers[i];
-    }
-    Written::Count(numbers.len())
+    Written::Count(lists::put(out, 0, numbers))
 }

@@ -1,0 +1,185 @@
+-- `flat::command` meets its contract: the numbers of each case, or its refusal.
+-- Assumes nothing.
+use mathlib.Core.Path.{sym, ap}
+use borrow.Author.Needs.{needs}
+use Rattle.flat.specs.Numbers.{commandNumbers}
+use Rattle.flat.proofs.Given.{given-as, not-given}
+use Rattle.flat.proofs.command.Statement.{statement}
+use Rattle.flat.proofs.command.Tie as tie
+
+enum-told : tie.Need-enum-told
+enum-told c = search needs
+
+slice-aggregate-give : tie.Need-slice-aggregate-give
+slice-aggregate-give c = search needs
+
+give-requires : tie.Need-give-requires
+give-requires c κs = tt
+
+enum-known-answer : tie.Need-enum-known-answer
+enum-known-answer c = search needs
+
+cast-t19 : tie.Need-cast-t19
+cast-t19 c = search needs
+
+slice-aggregate-give-2 : tie.Need-slice-aggregate-give-2
+slice-aggregate-give-2 c = search needs
+
+give-requires-2 : tie.Need-give-requires-2
+give-requires-2 c κs = tt
+
+enum-known-answer-2 : tie.Need-enum-known-answer-2
+enum-known-answer-2 c = search needs
+
+give-insert-requires : tie.Need-give-insert-requires
+give-insert-requires c κs = search needs
+
+enum-known-answer-3 : tie.Need-enum-known-answer-3
+enum-known-answer-3 c = search needs
+
+cast-t27 : tie.Need-cast-t27
+cast-t27 c = search needs
+
+slice-aggregate-give-3 : tie.Need-slice-aggregate-give-3
+slice-aggregate-give-3 c = search needs
+
+give-requires-3 : tie.Need-give-requires-3
+give-requires-3 c κs = tt
+
+enum-known-answer-4 : tie.Need-enum-known-answer-4
+enum-known-answer-4 c = search needs
+
+give-timed-requires : tie.Need-give-timed-requires
+give-timed-requires c κs = search needs
+
+enum-told-2 : tie.Need-enum-told-2
+enum-told-2 c = search needs
+
+slice-aggregate-give-4 : tie.Need-slice-aggregate-give-4
+slice-aggregate-give-4 c = search needs
+
+give-requires-4 : tie.Need-give-requires-4
+give-requires-4 c κs = tt
+
+enum-known-answer-5 : tie.Need-enum-known-answer-5
+enum-known-answer-5 c = search needs
+
+cast-t39 : tie.Need-cast-t39
+cast-t39 c = search needs
+
+slice-aggregate-give-5 : tie.Need-slice-aggregate-give-5
+slice-aggregate-give-5 c = search needs
+
+give-requires-5 : tie.Need-give-requires-5
+give-requires-5 c κs = tt
+
+enum-told-3 : tie.Need-enum-told-3
+enum-told-3 c = search needs
+
+slice-aggregate-give-6 : tie.Need-slice-aggregate-give-6
+slice-aggregate-give-6 c = search needs
+
+give-requires-6 : tie.Need-give-requires-6
+give-requires-6 c κs = tt
+
+enum-known-answer-6 : tie.Need-enum-known-answer-6
+enum-known-answer-6 c = search needs
+
+same-length : tie.Need-same-length
+same-length c = search needs
+
+returns : tie.Need-returns
+returns c = given-as _ (ap commandNumbers (sym (c .before .before .before .before .before .enum-told .given .1))) (c .before .before .give .ensures)
+
+same-length-2 : tie.Need-same-length-2
+same-length-2 c = search needs
+
+returns-2 : tie.Need-returns-2
+returns-2 c = given-as _ (ap commandNumbers (sym (c .before .before .before .before .before .before .answer .given .1))) (c .before .before .give2 .ensures)
+
+same-length-3 : tie.Need-same-length-3
+same-length-3 c = search needs
+
+returns-3 : tie.Need-returns-3
+returns-3 c = given-as _ (ap commandNumbers (sym (c .before .before .before .before .before .answer2 .given .1))) (c .before .before .give-insert .ensures)
+
+same-length-4 : tie.Need-same-length-4
+same-length-4 c = search needs
+
+returns-4 : tie.Need-returns-4
+returns-4 c = given-as _ (ap commandNumbers (sym (c .before .before .before .before .before .before .before .answer3 .given .1))) (c .before .before .give3 .ensures)
+
+same-length-5 : tie.Need-same-length-5
+same-length-5 c = search needs
+
+returns-5 : tie.Need-returns-5
+returns-5 c = given-as _ (ap commandNumbers (sym (c .before .before .before .before .before .answer4 .given .1))) (c .before .before .give-timed .ensures)
+
+same-length-6 : tie.Need-same-length-6
+same-length-6 c = search needs
+
+returns-6 : tie.Need-returns-6
+returns-6 c = given-as _ (ap commandNumbers (sym (c .before .before .before .before .before .enum-told2 .given .1))) (c .before .before .give4 .ensures)
+
+same-length-7 : tie.Need-same-length-7
+same-length-7 c = search needs
+
+returns-7 : tie.Need-returns-7
+returns-7 c = given-as _ (ap commandNumbers (sym (c .before .before .before .before .before .before .answer5 .given .1))) (c .before .before .give5 .ensures)
+
+same-length-8 : tie.Need-same-length-8
+same-length-8 c = search needs
+
+returns-8 : tie.Need-returns-8
+returns-8 c = given-as _ (ap commandNumbers (sym (c .before .before .before .before .before .enum-told3 .given .1))) (c .before .before .give6 .ensures)
+
+returns-9 : tie.Need-returns-9
+returns-9 c = given-as _ (ap commandNumbers (sym (c .before .answer6 .given .1))) (not-given _ _)
+
+pub command-spec : {M : Type 1} → statement M
+command-spec =
+    tie.close
+    (tie.spec
+    enum-told
+    slice-aggregate-give
+    give-requires
+    enum-known-answer
+    cast-t19
+    slice-aggregate-give-2
+    give-requires-2
+    enum-known-answer-2
+    give-insert-requires
+    enum-known-answer-3
+    cast-t27
+    slice-aggregate-give-3
+    give-requires-3
+    enum-known-answer-4
+    give-timed-requires
+    enum-told-2
+    slice-aggregate-give-4
+    give-requires-4
+    enum-known-answer-5
+    cast-t39
+    slice-aggregate-give-5
+    give-requires-5
+    enum-told-3
+    slice-aggregate-give-6
+    give-requires-6
+    enum-known-answer-6
+    same-length
+    returns
+    same-length-2
+    returns-2
+    same-length-3
+    returns-3
+    same-length-4
+    returns-4
+    same-length-5
+    returns-5
+    same-length-6
+    returns-6
+    same-length-7
+    returns-7
+    same-length-8
+    returns-8
+    returns-9)
