@@ -2,6 +2,7 @@
 
 mod accept;
 mod crc;
+mod damaged;
 mod fields;
 mod published;
 mod section_edges;

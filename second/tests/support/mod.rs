@@ -7,6 +7,7 @@ mod fields;
 mod lent;
 mod random;
 mod report;
+mod rooms;
 mod sheets;
 mod tally;
 
