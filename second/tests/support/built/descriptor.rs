@@ -29,6 +29,21 @@ impl Descriptor {
         }
     }
 
+    /// One of each.
+    pub fn every(random: &mut Random, size: Size) -> [Writer; 7] {
+        let dtmf_count = random.within(0..=7);
+        let audio_count = random.within(0..=15);
+        [
+            Descriptor::avail(random),
+            Descriptor::dtmf(random, dtmf_count),
+            Segmentation::any(random, size).descriptor(random),
+            Descriptor::time(random),
+            Descriptor::audio(random, audio_count),
+            Descriptor::foreign(random, size),
+            Descriptor::with_another_tag(random, size),
+        ]
+    }
+
     pub fn avail(random: &mut Random) -> Writer {
         let mut body = Writer::default();
         body.put(32, random.field(32));
