@@ -5,6 +5,7 @@ mod crc;
 mod damaged;
 mod fields;
 mod published;
+mod reading;
 mod section_edges;
 mod sheet;
 mod text_edges;

@@ -2,6 +2,7 @@
 //! memory must be equal; each method hands back the answer that they share.
 
 use super::lent::{Cell, Lent};
+use super::met::Met;
 use super::random::{seed, Random};
 use super::report::{pasted_text, same_answer, same_memory, AcceptAnswer, CountAnswer, CrcAnswer};
 use super::tally::Tally;
@@ -17,6 +18,8 @@ pub struct Bench {
     pub to_sheet: Tally,
     /// The same for sheets that are asked for their sections.
     pub to_section: Tally,
+    /// How often each typed answer was given.
+    pub met: Met,
 }
 
 impl Bench {
@@ -28,6 +31,7 @@ impl Bench {
             tally: Tally::default(),
             to_sheet: Tally::default(),
             to_section: Tally::default(),
+            met: Met::default(),
         }
     }
 
@@ -71,7 +75,7 @@ impl Bench {
         input: &[I],
         room: usize,
         answer: &Result<Vec<O>, u8>,
-        proved: fn(&mut [I], &mut [O]) -> u64,
+        proved: impl Fn(&mut [I], &mut [O]) -> u64,
         paste: impl Fn() -> String,
     ) {
         let before = Lent::holding(&mut self.random, input);

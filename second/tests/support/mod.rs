@@ -1,11 +1,14 @@
 //! What the comparison tests share: the random numbers, the lent memory, the reports, the
-//! built sections, their fields and the bench.
+//! built sections, their fields, the typed questions and the bench.
 
 mod bench;
 pub mod built;
 mod fields;
 mod lent;
+mod met;
+pub mod questions;
 mod random;
+mod readings;
 mod report;
 mod rooms;
 mod sheets;

@@ -9,7 +9,7 @@ mod writer;
 
 use super::random::Random;
 
-pub use command::Command;
+pub use command::{Command, Event};
 pub use descriptor::Descriptor;
 pub use repair::{cut, grown, with_crc, with_length_and_crc};
 pub use segmentation::{Segmentation, SUB_SEGMENT_TYPES};
