@@ -40,7 +40,7 @@ impl Bench {
     }
 
     /// The same; says whether there was an answer.
-    fn ask(&mut self, question: &Question, section: &[u8], at: &[usize]) -> bool {
+    pub fn ask(&mut self, question: &Question, section: &[u8], at: &[usize]) -> bool {
         self.answer(question, section, at).is_ok()
     }
 

@@ -54,7 +54,9 @@ fn schedules(bench: &mut Bench) {
         schedule(bench, &[Event::Cancelled, Event::Components(count)]);
     }
     schedule(bench, &[Event::Components(255); 3]);
-    schedule(bench, &[Event::Cancelled; 255]);
+    let mut most = [Event::Cancelled; 255];
+    most[254] = Event::Components(2);
+    schedule(bench, &most);
     schedule(bench, &[Event::Components(0); 100]);
 }
 

@@ -1,10 +1,12 @@
-//! Sections of 4,096 bytes, filled in every way.
+//! Sections of 4,096 bytes, filled in every way, and lists behind many descriptors.
 
 use crate::support::built::{
     any_section, filled_section, grown, longest_section, sealed, section, Command, Descriptor,
-    Event, Size, LONGEST,
+    Event, Segmentation, Size, Writer, LONGEST,
 };
-use crate::support::questions::KNOWN_DESCRIPTOR;
+use crate::support::questions::{
+    AUDIO_COMPONENT, DTMF_CHAR, KNOWN_DESCRIPTOR, SEGMENTATION_COMPONENT, UPID,
+};
 use crate::support::Bench;
 
 /// The bytes of a section that are no command, descriptors or stuffing.
@@ -30,6 +32,7 @@ pub fn all(bench: &mut Bench) {
     ask_often(bench, &built.bytes);
     one_command(bench);
     many_descriptors(bench);
+    lists_behind_many(bench);
 }
 
 /// Each question ten times, with some numbers.
@@ -65,8 +68,35 @@ fn many_descriptors(bench: &mut Bench) {
         let built = section(&mut bench.random, Command::null(), list, &stuffing);
         ask_often(bench, &built.bytes);
         for n in 0..count {
-            let answer = bench.answer(&KNOWN_DESCRIPTOR, &built.bytes, &[n]);
-            assert!(answer.is_ok());
+            assert!(bench.ask(&KNOWN_DESCRIPTOR, &built.bytes, &[n]));
         }
     }
+}
+
+/// Lists and a UPID behind more descriptors than a byte can count.
+fn lists_behind_many(bench: &mut Bench) {
+    let random = &mut bench.random;
+    let segmentation = Segmentation {
+        cancelled: false,
+        components: Some(2),
+        duration: true,
+        upid: 8,
+        type_id: 0x34,
+        behind: 2,
+    };
+    let mut list: Vec<Writer> = (0..300).map(|_| Descriptor::audio(random, 0)).collect();
+    list.push(Descriptor::dtmf(random, 2));
+    list.push(segmentation.descriptor(random));
+    list.push(Descriptor::audio(random, 2));
+    let section = section(random, Command::null(), list, &[]).bytes;
+    let mut there = 0;
+    for n in 299..=304 {
+        there += usize::from(bench.ask(&UPID, &section, &[n]));
+        for question in [&DTMF_CHAR, &SEGMENTATION_COMPONENT, &AUDIO_COMPONENT] {
+            for m in 0..=3 {
+                there += usize::from(bench.ask(question, &section, &[n, m]));
+            }
+        }
+    }
+    assert_eq!(there, 1 + 2 + 2 + 2);
 }
