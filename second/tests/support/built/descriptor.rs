@@ -103,6 +103,32 @@ impl Descriptor {
         Descriptor::whole(tag, CUEI, body)
     }
 
+    /// An unknown one that holds what a segmentation descriptor of a cue does: its identifier or its
+    /// tag is another.
+    pub fn look_alike(random: &mut Random) -> Writer {
+        let body = Segmentation::of_a_cue(random).body(random);
+        if random.once_in(3) {
+            let tag = random.within(5..=255) as u8;
+            Descriptor::whole(tag, CUEI, body)
+        } else {
+            Descriptor::whole(2, CUEI ^ 1 << random.within(0..=31), body)
+        }
+    }
+
+    /// An unknown one of any sort.
+    pub fn unknown(random: &mut Random) -> Writer {
+        let size = if random.once_in(10) {
+            Size::Long
+        } else {
+            Size::Short
+        };
+        match random.within(0..=3) {
+            0 => Descriptor::foreign(random, size),
+            1 => Descriptor::with_another_tag(random, size),
+            _ => Descriptor::look_alike(random),
+        }
+    }
+
     pub fn known(tag: u8, body: Writer) -> Writer {
         Descriptor::whole(tag, CUEI, body)
     }
