@@ -4,6 +4,8 @@ mod accept;
 mod crc;
 mod damaged;
 mod fields;
+#[cfg(feature = "house")]
+mod house;
 mod published;
 mod reading;
 mod section_edges;

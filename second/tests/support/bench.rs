@@ -1,6 +1,8 @@
 //! The bench: each question is put to both programs, and their answers and the whole of the lent
 //! memory must be equal; each method hands back the answer that they share.
 
+#[cfg(feature = "house")]
+use super::counts::Counts;
 use super::lent::{Cell, Lent};
 use super::met::Met;
 use super::random::{seed, Random};
@@ -20,6 +22,9 @@ pub struct Bench {
     pub to_section: Tally,
     /// How often each typed answer was given.
     pub met: Met,
+    /// How often each house answer was given.
+    #[cfg(feature = "house")]
+    pub house: Counts,
 }
 
 impl Bench {
@@ -32,6 +37,8 @@ impl Bench {
             to_sheet: Tally::default(),
             to_section: Tally::default(),
             met: Met::default(),
+            #[cfg(feature = "house")]
+            house: Counts::default(),
         }
     }
 
@@ -75,7 +82,7 @@ impl Bench {
         input: &[I],
         room: usize,
         answer: &Result<Vec<O>, u8>,
-        proved: impl Fn(&mut [I], &mut [O]) -> u64,
+        mut proved: impl FnMut(&mut [I], &mut [O]) -> u64,
         paste: impl Fn() -> String,
     ) {
         let before = Lent::holding(&mut self.random, input);

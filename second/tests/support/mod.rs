@@ -3,7 +3,10 @@
 
 mod bench;
 pub mod built;
+pub mod counts;
 mod fields;
+#[cfg(feature = "house")]
+pub mod house;
 mod lent;
 mod met;
 pub mod questions;

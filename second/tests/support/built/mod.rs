@@ -12,9 +12,9 @@ use super::random::Random;
 
 pub use command::{Command, Event};
 pub use descriptor::Descriptor;
-pub use partner::{partner, Change, Partner, CHANGES};
+pub use partner::{partner, Partner, CHANGES};
 pub use repair::{cut, grown, with_crc, with_length_and_crc};
-pub use segmentation::{Segmentation, OPENING_TYPES, SUB_SEGMENT_TYPES};
+pub use segmentation::{Segmentation, SUB_SEGMENT_TYPES};
 pub use writer::{Mark, Writer};
 
 /// The most bytes of a section.

@@ -8,7 +8,7 @@ use super::{Random, Size};
 pub const SUB_SEGMENT_TYPES: [u8; 8] = [0x30, 0x32, 0x34, 0x36, 0x38, 0x3A, 0x44, 0x46];
 
 /// The types that open a break.
-pub const OPENING_TYPES: [u8; 5] = [0x22, 0x30, 0x32, 0x34, 0x36];
+const OPENING_TYPES: [u8; 5] = [0x22, 0x30, 0x32, 0x34, 0x36];
 
 /// The most bytes of a body behind its identifier.
 const ROOM: usize = 251;
