@@ -6,6 +6,7 @@ mod damaged;
 mod fields;
 #[cfg(feature = "house")]
 mod house;
+mod pairs;
 mod published;
 mod reading;
 mod section_edges;
