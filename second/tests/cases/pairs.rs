@@ -180,7 +180,7 @@ fn proved(question: &Question, section: &mut [u8], at: &[usize]) -> Answer {
 fn written(count: u64, out: &[u64]) -> Answer {
     match count.checked_sub(REFUSED) {
         None => Ok(out[..count as usize].to_vec()),
-        Some(refused) => Err(refused as u8),
+        Some(refused) => Err(u8::try_from(refused).expect("the number of a refusal")),
     }
 }
 
