@@ -1,22 +1,22 @@
 -- The bytes of a private command by their number: after its identifier, up to its end.
 -- Assumes nothing.
-use mathlib.Core.Path.{_≡_, refl, sym, ap, _∙_}
-use mathlib.Core.Bool.{Bool, true, false, cond}
+use mathlib.Core.Path.{_≡_, sym, ap, _∙_}
+use mathlib.Core.Bool.{Bool, cond}
 use mathlib.Core.List.{List, [], append-nil}
 use Prim.Native.Nat.{ℕ, _+_, _-_, _*_, _≤_, _<_}
 use native.Mathlib.Omega.{arith}
 use lib.ListN.{length, getD}
-use lib.Dec.{ltb, eqb}
+use lib.Dec.{ltb}
 use borrow.Author.Tests.{eq-eqb, ne-eqb, le-ltb, lt-ltb}
 use Rattle.bits.specs.Bits.{bit, num}
 use Rattle.units.specs.declared.refusals.Refusal.{Refusal}
-use Rattle.grammar.specs.Meaning.{values, Reading, reached}
-use Rattle.grammar.specs.Traces.{Trace, traceOf}
+use Rattle.grammar.specs.Meaning.{values, reached}
+use Rattle.grammar.specs.Traces.{Trace}
 use Rattle.grammar.specs.Names.{look, allOf}
 use Rattle.grammar.proofs.Names.{fieldsFrom, fields-length, fields-at}
 use Rattle.grammar.proofs.Places.{octet}
 use Rattle.command_reading.specs.declared.answers.PrivateByte.{PrivateByte}
-use Rattle.command_reading.specs.Command.{commandReading, typed, commandTrace, privateBytes, privateByteOf}
+use Rattle.command_reading.specs.Command.{commandReading, typed, commandTrace, privateByteOf}
 use Rattle.command_reading.proofs.Said.{trace-is, private-rows}
 
 -- byte n of these

@@ -2,7 +2,7 @@
 -- Assumes nothing.
 use mathlib.Core.Path.{_≡_, refl, sym, ap, ap₂, _∙_}
 use mathlib.Core.Bool.{Bool, true, false, cond, _&&_}
-use mathlib.Core.List.{List, [], _∷_, _++_}
+use mathlib.Core.List.{List, [], _++_}
 use mathlib.Core.Logic.{⊎-elim}
 use Prim.Native.Nat.{ℕ, _+_, _*_, _≤_, _<_}
 use native.Mathlib.Omega.{arith}
@@ -14,7 +14,7 @@ use Rattle.bits.proofs.Cases.{by-cases}
 use Rattle.bits.proofs.Fields.{field-lt}
 use Rattle.units.specs.declared.refusals.Refusal.{Refusal}
 use Rattle.grammar.specs.Syntax.{field, is, done, branch}
-use Rattle.grammar.specs.Meaning.{values, Reading, reached, again, read, breach, ends, endOf}
+use Rattle.grammar.specs.Meaning.{values, reached, again, breach, ends, endOf}
 use Rattle.grammar.specs.Tables.{splice-time, insert-component}
 use Rattle.grammar.specs.Traces.{Trace, traceOf}
 use Rattle.grammar.specs.Names.{look, isSet, part}

@@ -4,12 +4,12 @@ use mathlib.Core.Path.{_≡_, refl, sym, ap, _∙_}
 use mathlib.Core.Bool.{true, false, cond, false≢true}
 use mathlib.Core.List.{List, [], _∷_, _++_, append-nil}
 use mathlib.Core.Logic.{⊎-elim}
-use Prim.Native.Nat.{ℕ, _+_, _*_, _≤_}
+use Prim.Native.Nat.{ℕ, _*_, _≤_}
 use native.Mathlib.Omega.{arith}
 use lib.ListN.{length}
 use lib.Dec.{eqb}
 use Rattle.bits.specs.Bits.{bit, num, fieldOf}
-use Rattle.grammar.specs.Syntax.{Prog, Item, field, reserved, is, done, branch}
+use Rattle.grammar.specs.Syntax.{Item, field, reserved, is, done, branch}
 use Rattle.grammar.specs.Meaning.{Env, valueOf, values, bind, Reading, reached, again, read}
 use Rattle.grammar.specs.Tables.{splice-time, break-duration, avail-numbers, avails, insert-component, insert-times, splice-insert}
 use Rattle.grammar.specs.Traces.{Trace, traceOf}
@@ -43,6 +43,7 @@ pub record Listed (s : List ℕ) (end : ℕ) (t : Trace) : Type 0 where
   pub reads : again (fieldOf s 160 8) (one s end) 168 ≡ reached last list
   pub parts : (n : ℕ) → part "component_tag" n (typed s t) ≡ part "component_tag" n (list ++ rest)
 
+-- what the rows t of the insert say of them
 pub record Insert (s : List ℕ) (end : ℕ) (t : Trace) : Type 0 where
   pub count : look t "component_count" ≡ counted s
   pub immediate : flagAt s 144 ≡ false → isSet t "splice_immediate_flag" ≡ flagAt s 155

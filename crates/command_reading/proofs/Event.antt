@@ -1,7 +1,7 @@
 -- What an event of splice_schedule() tells (Table 9): its values by their rows are its values by their places.
 -- Assumes nothing.
 use mathlib.Core.Path.{_≡_, refl, sym, ap, _∙_}
-use mathlib.Core.Bool.{Bool, true, false, cond}
+use mathlib.Core.Bool.{true, false, cond}
 use mathlib.Core.List.{List, [], _∷_, _++_, append-nil}
 use mathlib.Core.Logic.{⊎-elim}
 use Prim.Native.Nat.{ℕ, _+_, _*_, _≤_, _<_}
@@ -13,9 +13,9 @@ use Rattle.bits.specs.Bits.{bit, num, fieldOf}
 use Rattle.bits.proofs.Cases.{cond-same}
 use Rattle.units.specs.declared.refusals.Refusal.{Refusal}
 use Rattle.grammar.specs.Syntax.{Item, field, reserved}
-use Rattle.grammar.specs.Meaning.{Env, valueOf, values, read}
+use Rattle.grammar.specs.Meaning.{Env, valueOf, values}
 use Rattle.grammar.specs.Tables.{break-duration, avail-numbers, avails, schedule-times, schedule-event}
-use Rattle.grammar.specs.Traces.{Trace, traceOf}
+use Rattle.grammar.specs.Traces.{Trace}
 use Rattle.grammar.specs.Names.{look, isSet, part}
 use Rattle.grammar.proofs.Ends.{given, covers}
 use Rattle.grammar.proofs.Each.{Each, every, each-append, read-each}
@@ -25,7 +25,7 @@ use Rattle.command_reading.specs.declared.answers.EventTime.{EventTime}
 use Rattle.command_reading.specs.declared.answers.Event.{Event}
 use Rattle.command_reading.specs.declared.answers.EventComponent.{EventComponent}
 use Rattle.command_reading.specs.Command.{eventId, availsOf, eventTime, scheduledOf, eventComponentIn}
-use Rattle.command_reading.specs.Places.{flagAt, availsAt, eventTimeAt, eventAt, componentsAt, eventComponentAt}
+use Rattle.command_reading.specs.Places.{flagAt, availsAt, eventTimeAt, eventAt, eventComponentAt}
 use Rattle.command_reading.proofs.Rows.{there, zero-or-one}
 use Rattle.command_reading.proofs.Avails.{Before, early, avails-tell, avails-said}
 

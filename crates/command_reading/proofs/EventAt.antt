@@ -1,16 +1,16 @@
 -- The event of a schedule by its number: what its rows say is what stands where the events before it end.
 -- Assumes nothing.
 use mathlib.Core.Path.{_≡_, refl, sym, ap, ap₂, _∙_}
-use mathlib.Core.Bool.{Bool, true, false, cond, _&&_, false≢true}
+use mathlib.Core.Bool.{Bool, true, cond, _&&_, false≢true}
 use mathlib.Core.List.{List, [], _∷_, _++_, append-nil}
-use Prim.Native.Nat.{ℕ, suc, _+_, _*_, _≤_, _<_}
+use Prim.Native.Nat.{ℕ, _+_, _*_, _≤_, _<_}
 use native.Mathlib.Numerals.{add-one}
 use native.Mathlib.Omega.{arith}
 use lib.ListN.{length}
 use lib.Dec.{eqb, ltb}
 use borrow.Author.Tests.{le-leb, eq-eqb, ne-eqb, le-ltb, lt-ltb}
 use Rattle.bits.specs.Bits.{bit, num}
-use Rattle.grammar.specs.Syntax.{field, reserved, is, done, fields, branch, call}
+use Rattle.grammar.specs.Syntax.{field, reserved, is}
 use Rattle.grammar.specs.Meaning.{Env, values, Reading, reached, again, read, breach, ends, endOf}
 use Rattle.grammar.specs.Tables.{break-duration, avail-numbers, avails, schedule-times, schedule-event, splice-schedule}
 use Rattle.grammar.specs.Traces.{Trace, traceOf}
@@ -24,10 +24,10 @@ use Rattle.commands.specs.Command.{known, tableOf, eventPlace}
 use Rattle.command_reading.specs.declared.lists.Span.{Span}
 use Rattle.command_reading.specs.Command.{commandReading, typed, commandTrace, eventRows, scheduledOf, eventComponentIn}
 use Rattle.command_reading.specs.Places.{eventIs}
-use Rattle.command_reading.proofs.Said.{reached-at, came, bounds, fits, by-table, trace-is}
+use Rattle.command_reading.proofs.Said.{reached-at, came, bounds, by-table, trace-is}
 use Rattle.command_reading.proofs.Shorter.{endless, onward}
 use Rattle.command_reading.proofs.Firsts.{anew, first-end, one-more}
-use Rattle.command_reading.proofs.Event.{Told, event-tells}
+use Rattle.command_reading.proofs.Event.{event-tells}
 
 -- one event, up to byte `end`, from place i on
 abbrev one : List ℕ → ℕ → ℕ → Reading

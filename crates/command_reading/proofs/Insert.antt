@@ -11,7 +11,7 @@ use lib.Dec.{eqb}
 use Rattle.bits.specs.Bits.{bit, num, fieldOf}
 use Rattle.grammar.specs.Syntax.{field, reserved}
 use Rattle.grammar.specs.Meaning.{Env, valueOf, values, bind, again, read}
-use Rattle.grammar.specs.Tables.{splice-time, insert-component, insert-times, splice-insert, avails}
+use Rattle.grammar.specs.Tables.{splice-time, insert-component, insert-times, splice-insert}
 use Rattle.grammar.specs.Traces.{Trace, traceOf}
 use Rattle.grammar.specs.Names.{look, isSet}
 use Rattle.grammar.proofs.Ends.{given}

@@ -5,7 +5,6 @@ use mathlib.Core.Bool.{Bool, true, false, cond, _&&_}
 use mathlib.Core.List.{List, []}
 use Prim.Native.Nat.{ℕ}
 use native.Mathlib.Omega.{arith}
-use lib.ListN.{length}
 use lib.Dec.{ltb, eqb}
 use borrow.Author.Tests.{le-ltb}
 use Rattle.bits.specs.Bits.{bit, num}
@@ -16,7 +15,7 @@ use Rattle.grammar.specs.Names.{look, allOf}
 use Rattle.command_reading.specs.declared.answers.InsertComponent.{InsertComponent}
 use Rattle.command_reading.specs.declared.answers.PrivateByte.{PrivateByte}
 use Rattle.command_reading.specs.declared.lists.Span.{Span}
-use Rattle.command_reading.specs.Command.{commandReading, typed, commandTrace, privateBytes, insertComponentOf, privateByteOf}
+use Rattle.command_reading.specs.Command.{commandReading, typed, commandTrace, insertComponentOf, privateByteOf}
 use Rattle.command_reading.specs.Places.{eventIs}
 
 none-of : (b : Bool) (n : ℕ) → (b && ltb n 0) ≡ false

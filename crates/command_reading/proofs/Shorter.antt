@@ -2,17 +2,16 @@
 -- Assumes nothing.
 use mathlib.Core.Path.{_≡_, refl, sym, ap, _∙_}
 use mathlib.Core.Bool.{Bool, true, false, cond, _&&_, false≢true}
-use mathlib.Core.List.{List, [], _++_}
-use Prim.Native.Nat.{ℕ, zero, suc, _+_, _*_, _≤_}
+use mathlib.Core.List.{[]}
+use Prim.Native.Nat.{ℕ, zero, suc, _+_, _≤_}
 use native.Mathlib.Omega.{arith}
 use lib.Dec.{leb}
-use borrow.Author.Tests.{leb-true, le-leb}
+use borrow.Author.Tests.{le-leb}
 use Rattle.bits.proofs.Cases.{and-left, and-right}
-use Rattle.grammar.specs.Syntax.{Item, Test, Prog, is, among, more, done, stop, fields, branch, call, repeat, frame, fill, under}
-use Rattle.grammar.specs.Meaning.{Env, valueOf, width, values, bind, holds, Reading, broken, reached, after, then, again, read, ends, endOf}
+use Rattle.grammar.specs.Syntax.{Test, Prog, is, among, more, done, stop, fields, branch, call, repeat, frame, fill, under}
+use Rattle.grammar.specs.Meaning.{Env, valueOf, width, values, bind, holds, Reading, broken, reached, after, then, again, read}
 use Rattle.grammar.specs.Traces.{Trace}
 use Rattle.grammar.proofs.Readings.{then-parts}
-use Rattle.grammar.proofs.Run.{end-after}
 
 -- the test looks at a value
 abbrev ofValue : Test → Bool

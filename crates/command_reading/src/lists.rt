@@ -68,8 +68,8 @@ pub(crate) fn event(s: &[u8], at: usize, end: usize) -> Event
     ensures { λ r. ⌜ r ≡ eventAt (now (s .entry)) at end ⌝ }
 {
     let splice_event_id = EventId(bits::quad(s, at) as u32);
-    // splice_event_cancel_indicator
-    if parts::flag(s, 8 * (at + 4)) {
+    let splice_event_cancel_indicator = parts::flag(s, 8 * (at + 4));
+    if splice_event_cancel_indicator {
         return Event::Cancelled(splice_event_id);
     }
     let time = event_time(s, at);

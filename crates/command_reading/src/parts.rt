@@ -12,14 +12,14 @@ use units::EventId;
 use units::Ticks;
 
 // Whether the bit at place k is 1.
-pub fn flag(s: &[u8], k: usize) -> bool
+pub(crate) fn flag(s: &[u8], k: usize) -> bool
     ensures { λ r. ⌜ r ≡ flagAt (now (s .entry)) k ⌝ }
 {
     bits::read(s, k, 1) == 1
 }
 
 // Table 14, from byte `at` on.
-pub fn splice_time(s: &[u8], at: usize) -> SpliceTime
+pub(crate) fn splice_time(s: &[u8], at: usize) -> SpliceTime
     requires { ⌜ at ≤ 4096 ⌝ }
     ensures { λ r. ⌜ r ≡ timeAt (now (s .entry)) at ⌝ }
 {
@@ -46,7 +46,7 @@ fn break_duration(s: &[u8], at: usize, duration_flag: bool) -> BreakDuration
 }
 
 // Tables 9 and 10, the end of an event, which ends before byte `end`.
-pub fn avails(s: &[u8], end: usize, duration_flag: bool) -> Avails
+pub(crate) fn avails(s: &[u8], end: usize, duration_flag: bool) -> Avails
     requires { ⌜ (9 ≤ end) × (end ≤ 4096) ⌝ }
     ensures { λ r. ⌜ r ≡ availsAt (now (s .entry)) end «duration_flag» ⌝ }
 {
@@ -60,7 +60,7 @@ pub fn avails(s: &[u8], end: usize, duration_flag: bool) -> Avails
 }
 
 // Table 10, the splice insert that stands from byte 14 up to `end`.
-pub fn insert(s: &[u8], end: usize) -> Command
+pub(crate) fn insert(s: &[u8], end: usize) -> Command
     requires { ⌜ (9 ≤ end) × (end ≤ 4096) ⌝ }
     ensures { λ r. ⌜ r ≡ insertAt (now (s .entry)) end ⌝ }
 {

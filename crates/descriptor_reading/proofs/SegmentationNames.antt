@@ -1,7 +1,7 @@
 -- The rows of a segmentation descriptor by their names: the value of each is that of the field at its place.
 -- Assumes nothing.
 use mathlib.Core.Path.{_≡_, refl, ap, ap₂, _∙_}
-use mathlib.Core.Bool.{Bool, true, false, cond, not}
+use mathlib.Core.Bool.{Bool, true, false, cond}
 use mathlib.Core.List.{List, [], _∷_, _++_, append-nil, append-assoc}
 use Prim.Native.Nat.{ℕ, _+_, _*_, _≤_, _<_}
 use native.Mathlib.Omega.{arith}
@@ -25,7 +25,7 @@ use Rattle.descriptor_reading.specs.declared.answers.SubSegments.{SubSeg
 use Rattle.descriptor_reading.specs.Descriptor.{modeOf, deliveryOf, durationOf, subSegmentsOf, through}
 use Rattle.descriptor_reading.specs.Places.{afterComponents, upidPlace, afterUpid, modeAt, deliveryAt, durationAt, subSegmentsAt}
 use Rattle.descriptor_reading.proofs.SegmentationRows as table
-use Rattle.descriptor_reading.proofs.SegmentationRows.{there, flag-set, deliveryRows, componentRows, durationRows, wholeRows, hasSubNumbers, endRows, cancelled}
+use Rattle.descriptor_reading.proofs.SegmentationRows.{there, flag-set, deliveryRows, componentRows, durationRows, wholeRows, hasSubNumbers, endRows}
 use Rattle.descriptor_reading.proofs.Rows.{both, each-rows, each-cond, through-past, size-many}
 
 -- the rows before the body of a descriptor that stands at byte `at`, and the body
@@ -215,7 +215,8 @@ module _ (s : List ℕ) (at : ℕ) where
 
     restrictions-told : flagOf s (8 * (at + 6 + 5) + 2) ≡ false
         → let k = 8 * (at + 6 + 5) in
-        Delivery.Restricted (isSet t "web_delivery_allowed_flag") (isSet t "no_regional_blackout_flag") (isSet t "archive_allowed_flag") (look t "device_restrictions")
+        Delivery.Restricted (isSet t "web_delivery_allowed_flag") (isSet t "no_regional_blackout_flag") (isSet t "archive_allowed_flag")
+        (look t "device_restrictions")
         ≡ Delivery.Restricted (flagOf s (k + 3)) (flagOf s (k + 4)) (flagOf s (k + 5)) (fieldOf s (k + 6) 2)
     unfolding deliveryRows look values
     restrictions-told e =
@@ -328,12 +329,14 @@ module _ (s : List ℕ) (stop u : ℕ) (inside : stop ≤ length s) (fits : afte
   sub-segments-there more =
       let k : ℕ = afterUpid s u in
       (λ i.
-      subAnswer (all-typed s stop u "sub_segment_num" refl refl i) (to-typed s stop u "sub_segment_num" refl refl i) (to-typed s stop u "sub_segments_expected" refl refl i))
+      subAnswer (all-typed s stop u "sub_segment_num" refl refl i) (to-typed s stop u "sub_segment_num" refl refl i)
+      (to-typed s stop u "sub_segments_expected" refl refl i))
       ∙ go (hasSubNumbers s stop u)
       (λ e. there s (8 * (k + 3)) (8 * (k + 3)) 8 refl (omega arith) (omega (arith, more e)))
       (λ e. there s (8 * (k + 3) + 8) (8 * (k + 3 + 1)) 8 (omega arith) (omega arith) (omega (arith, more e)))
     where
-      go : (v : Bool) {x y : ℕ} → (v ≡ true → num (bit s) (8 * (afterUpid s u + 3)) 8 ≡ x) → (v ≡ true → num (bit s) (8 * (afterUpid s u + 3) + 8) 8 ≡ y)
+      go : (v : Bool) {x y : ℕ} → (v ≡ true → num (bit s) (8 * (afterUpid s u + 3)) 8 ≡ x)
+          → (v ≡ true → num (bit s) (8 * (afterUpid s u + 3) + 8) 8 ≡ y)
           → let r = values table.numbers (bit s) (8 * afterUpid s u) ++ cond v (values table.subNumbers (bit s) (8 * (afterUpid s u + 3))) [] in
           subAnswer (allOf r "sub_segment_num") (look r "sub_segment_num") (look r "sub_segments_expected") ≡ cond v (SubSegments.Present x y) SubSegments.Absent
       go true h l = ap₂ SubSegments.Present (h refl) (l refl)
@@ -345,18 +348,18 @@ module _ (s : List ℕ) (at stop : ℕ) (inside : stop ≤ length s) (fits : aft
   abbrev u : ℕ
   u = upidPlace s (at + 6)
 
-  abbrev whole-t : Trace
-  whole-t = headed s at (wholeRows s (at + 6) (endRows s stop u))
+  abbrev entire : Trace
+  entire = headed s at (wholeRows s (at + 6) (endRows s stop u))
 
-  pub through-size : 8 * at + size (through "segmentation_upid_length" whole-t) ≡ 8 * (u + 2)
+  pub through-size : 8 * at + size (through "segmentation_upid_length" entire) ≡ 8 * (u + 2)
   unfolding endRows through values rowsOf
   through-size =
       let n : Name = "segmentation_upid_length" in
-      let rows : through n whole-t ≡ opened s at ++ values table.upidHead (bit s) (8 * u) =
+      let rows : through n entire ≡ opened s at ++ values table.upidHead (bit s) (8 * u) =
       ap (through n) (opened-on s at (endRows s stop u)) ∙ through-past n (opened s at) (endRows s stop u) (opened-each s at n refl refl) in
       omega (arith, ap size rows, size-append (opened s at) (values table.upidHead (bit s) (8 * u)), opened-size s at)
 
-  pub all-upid : allOf whole-t "segmentation_upid" ≡ fieldsFrom (bit s) 8 (fieldOf s (8 * (u + 1)) 8) (8 * (u + 2))
+  pub all-upid : allOf entire "segmentation_upid" ≡ fieldsFrom (bit s) 8 (fieldOf s (8 * (u + 1)) 8) (8 * (u + 2))
   unfolding upid
   all-upid =
       let n : Name = "segmentation_upid" in
@@ -372,16 +375,12 @@ module _ (s : List ℕ) (at stop : ℕ) (inside : stop ≤ length s) (fits : aft
 -- ---- the components
 
 module _ (s : List ℕ) (at : ℕ) (w : Trace) (inside : upidPlace s (at + 6) ≤ length s) where
-  pub no-components : flagOf s (8 * (at + 6 + 5)) ≡ true → Each (other "component_count") w → look (headed s at (wholeRows s (at + 6) w)) "component_count" ≡ 0
+  pub no-components : flagOf s (8 * (at + 6 + 5)) ≡ true → Each (other "component_count") w
+      → look (headed s at (wholeRows s (at + 6) w)) "component_count" ≡ 0
   unfolding componentRows
   no-components e h =
       let n : Name = "component_count" in
-      to-components s at w inside n refl refl
-      ∙ ap (λ (v : Bool). look
-      (cond v [] (values table.count (bit s) (8 * (at + 6 + 6)) ++ many (fieldOf s (8 * (at + 6 + 6)) 8) table.component (bit s) (8 * (at + 6 + 7))) ++ (durationRows s (at + 6) ++ w))
-      n) e
-      ∙ look-past n (durationRows s (at + 6)) w (duration-each s at n refl)
-      ∙ look-none n w h
+      to-components s at w inside n refl refl ∙ rw e (look-past n (durationRows s (at + 6)) w (duration-each s at n refl) ∙ look-none n w h)
 
   pub component-part : flagOf s (8 * (at + 6 + 5)) ≡ false → (m : ℕ) → m < fieldOf s (8 * (at + 6 + 6)) 8
       → (rest : Trace)
@@ -396,9 +395,8 @@ module _ (s : List ℕ) (at : ℕ) (w : Trace) (inside : upidPlace s (at + 6) �
         ap (part n m) (head-on s at w)
             ∙ part-past n m (head s at) (deliveryRows s (at + 6) ++ (componentRows s (at + 6) ++ x)) (head-each s at n refl)
             ∙ part-past n m (deliveryRows s (at + 6)) (componentRows s (at + 6) ++ x) (delivery-each s at n refl)
-            ∙ ap (λ (v : Bool). part n m
-            (cond v [] (values table.count (bit s) (8 * (at + 6 + 6)) ++ many c table.component (bit s) (8 * (at + 6 + 7))) ++ x)) e
-            ∙ part-past n m (values table.count (bit s) (8 * (at + 6 + 6))) (many c table.component (bit s) (8 * (at + 6 + 7)) ++ x)
+            ∙ rw e
+            (part-past n m (values table.count (bit s) (8 * (at + 6 + 6))) (many c table.component (bit s) (8 * (at + 6 + 7)) ++ x)
             (each-values (other n) table.count (bit s) (8 * (at + 6 + 6)) refl)
-            ∙ one .1,
+            ∙ one .1),
       )

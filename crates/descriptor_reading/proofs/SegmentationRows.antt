@@ -88,8 +88,8 @@ module _ (s : List ℕ) (stop u : ℕ) where
 abbrev Is : Trace → ℕ → ℕ → Trace → Type 0
 Is u m j t = (m ≡ j) × (u ≡ t)
 
-on : (P : ℕ → Trace → Type 0) {p : Prog} {env : Env} {f : ℕ → ℕ} {end m j : ℕ} {u t : Trace} → Tells (λ i v. P i (u ++ v)) p env f end m → Is u m j t
-    → Tells (λ i v. P i (t ++ v)) p env f end j
+on : (P : ℕ → Trace → Type 0) {p : Prog} {env : Env} {f : ℕ → ℕ} {end m j : ℕ} {u t : Trace}
+    → Tells (λ i v. P i (u ++ v)) p env f end m → Is u m j t → Tells (λ i v. P i (t ++ v)) p env f end j
 on P {p} {env} {f} {end} {j = j} {u = u} h e =
     subst (λ (t : Trace). Tells (λ i v. P i (t ++ v)) p env f end j) (e .1) (subst (λ (j : ℕ). Tells (λ i v. P i (u ++ v)) p env f end j) (e .0) h)
 
@@ -132,30 +132,30 @@ module _ (s : List ℕ) (stop : ℕ) (inside : stop ≤ length s) (env : Env) wh
   delivery-is k true e = arm-last false e (rows (λ h. over (refl, refl)))
   delivery-is k false e = arm-last true e (rows (λ h. over (refl, refl)))
 
-  module _ (at : ℕ) where
-    components-are : (v : Bool) → eqb (valueOf env "program_segmentation_flag") 0 ≡ not v
-        → let n = fieldOf s (8 * (at + 6)) 8 in
-        Says (Is (cond v [] (values count (bit s) (8 * (at + 6)) ++ many n component (bit s) (8 * (at + 7)))) (8 * cond v (at + 6) (at + 7 + 6 * n)))
-        segmentation-components (8 * (at + 6))
-    unfolding segmentation-components
-    components-are true e = arm-last false e (over (refl, refl))
-    components-are false e =
-        let n : ℕ = fieldOf s (8 * (at + 6)) 8 in
-        arm-last true e
-        (rows
-        (λ h.
-        place (omega arith)
-        (alike n (sym (field-there s (8 * (at + 6)) 8 (omega arith) (omega arith)))
-        (over (omega arith, ap (λ (t : Trace). values count (bit s) (8 * (at + 6)) ++ t) (sym (append-nil (many n component (bit s) (8 * (at + 7))))))))))
+  components-are : (at : ℕ) (v : Bool) → eqb (valueOf env "program_segmentation_flag") 0 ≡ not v
+      → let n = fieldOf s (8 * (at + 6)) 8 in
+      Says (Is (cond v [] (values count (bit s) (8 * (at + 6)) ++ many n component (bit s) (8 * (at + 7)))) (8 * cond v (at + 6) (at + 7 + 6 * n)))
+      segmentation-components (8 * (at + 6))
+  unfolding segmentation-components
+  components-are at true e = arm-last false e (over (refl, refl))
+  components-are at false e =
+      let n : ℕ = fieldOf s (8 * (at + 6)) 8 in
+      arm-last true e
+      (rows
+      (λ h.
+      place (omega arith)
+      (alike n (sym (field-there s (8 * (at + 6)) 8 (omega arith) (omega arith)))
+      (over (omega arith, ap (λ (t : Trace). values count (bit s) (8 * (at + 6)) ++ t) (sym (append-nil (many n component (bit s) (8 * (at + 7))))))))))
 
-    duration-is : (after : ℕ) (v : Bool)
-        → Says (Is (cond v (values lasting (bit s) (8 * after)) []) (8 * cond v (after + 5) after)) (cond v (fields lasting done) done) (8 * after)
-    unfolding values
-    duration-is after true = rows (λ h. over (omega arith, refl))
-    duration-is after false = over (refl, refl)
+  duration-is : (after : ℕ) (v : Bool)
+      → Says (Is (cond v (values lasting (bit s) (8 * after)) []) (8 * cond v (after + 5) after)) (cond v (fields lasting done) done) (8 * after)
+  unfolding values
+  duration-is after true = rows (λ h. over (omega arith, refl))
+  duration-is after false = over (refl, refl)
 
   -- two bytes more, or not
-  sub-numbers-are : (P : ℕ → Trace → Type 0) (k : ℕ) (v w : Bool) → isAmong (valueOf env "segmentation_type_id") sub-segmented ≡ v → ltb k (8 * stop) ≡ w
+  sub-numbers-are : (P : ℕ → Trace → Type 0) (k : ℕ) (v w : Bool) → isAmong (valueOf env "segmentation_type_id") sub-segmented ≡ v
+      → ltb k (8 * stop) ≡ w
       → ((j : ℕ) → (v && w ≡ true → k + 16 ≤ 8 * stop) → P j (cond (v && w) (values subNumbers (bit s) k) []))
       → Says P (branch (among "segmentation_type_id" sub-segmented) (branch more (fields subNumbers done) done done) done done) k
   unfolding values
@@ -178,12 +178,12 @@ module _ (s : List ℕ) (stop : ℕ) where
 
 module _ (s : List ℕ) (stop : ℕ) (inside : stop ≤ length s) where
   -- a test of places in bits is one of bytes
-  more-bytes : (k n : ℕ) → k ≡ 8 * n → ltb k (8 * stop) ≡ ltb n stop
-  more-bytes k n e = go (ltb n stop) refl
+  more-bytes : (n : ℕ) → ltb (8 * n) (8 * stop) ≡ ltb n stop
+  more-bytes n = go (ltb n stop) refl
     where
-      go : (v : Bool) → ltb n stop ≡ v → ltb k (8 * stop) ≡ v
-      go true q = lt-ltb k (8 * stop) (omega (arith, ltb-true n stop q))
-      go false q = le-ltb k (8 * stop) (omega (arith, ltb-false n stop q))
+      go : (v : Bool) → ltb n stop ≡ v → ltb (8 * n) (8 * stop) ≡ v
+      go true q = lt-ltb (8 * n) (8 * stop) (omega (arith, ltb-true n stop q))
+      go false q = le-ltb (8 * n) (8 * stop) (omega (arith, ltb-false n stop q))
 
   ends : (env : Env) (u : ℕ) → Tells (λ j t. Ends s stop u t) segmentation-end env (bit s) (8 * stop) (8 * u)
   unfolding segmentation-end endRows
@@ -199,7 +199,7 @@ module _ (s : List ℕ) (stop : ℕ) (inside : stop ≤ length s) where
       place (omega arith)
       (sub-numbers-are s stop inside _ _ (8 * (afterUpid s u + 3)) (isAmong (fieldOf s (8 * afterUpid s u) 8) sub-segmented) (ltb (afterUpid s u + 3) stop)
       (ap (λ (x : ℕ). isAmong x sub-segmented) (sym (field-there s (8 * afterUpid s u) 8 (omega arith) (omega arith))))
-      (more-bytes (8 * (afterUpid s u + 3)) (afterUpid s u + 3) refl)
+      (more-bytes (afterUpid s u + 3))
       (λ j m. record { rows = refl; fits = omega arith; more = λ e. omega (arith, m e) })))))))
 
   module _ (at : ℕ) (env : Env) where
@@ -219,9 +219,10 @@ module _ (s : List ℕ) (stop : ℕ) (inside : stop ≤ length s) where
         (place (omega arith)
         (rows
         (λ l.
-        call-on (delivery-is s stop inside _ (8 * (at + 5) + 3) (flagOf s (8 * (at + 5) + 2)) (flag-clear s (8 * (at + 5) + 1 + 1) (8 * (at + 5) + 2) (omega arith) (omega arith)))
+        call-on (delivery-is s stop inside _ (8 * (at + 5) + 3) (flagOf s (8 * (at + 5) + 2))
+        (flag-clear s (8 * (at + 5) + 1 + 1) (8 * (at + 5) + 2) (omega arith) (omega arith)))
         (place (omega arith)
         (call-on (components-are s stop inside _ at (flagOf s (8 * (at + 5))) (flag-clear s _ (8 * (at + 5)) refl (omega arith)))
         (arm-on (flagOf s (8 * (at + 5) + 1)) (flag-set s _ (8 * (at + 5) + 1) refl (omega arith))
-        (duration-is s stop inside _ at (afterComponents s at) (flagOf s (8 * (at + 5) + 1)))
+        (duration-is s stop inside _ (afterComponents s at) (flagOf s (8 * (at + 5) + 1)))
         (sub-last (so (ends _ (upidPlace s at)) (λ j t m. record { rows = ap (wholeRows s at) (m .rows); fits = m .fits; more = m .more }))))))))))

@@ -1,7 +1,7 @@
 -- What the rows of a segmentation descriptor say is what stands at their places, for a reading that uses the descriptor up.
 -- Assumes nothing.
 use mathlib.Core.Path.{_≡_, refl, sym, ap, _∙_, subst}
-use mathlib.Core.Bool.{Bool, true, false, cond, not}
+use mathlib.Core.Bool.{Bool, true, false, cond}
 use mathlib.Core.List.{List, [], _++_}
 use mathlib.Core.Logic.{⊎-elim}
 use Prim.Native.Nat.{ℕ, _+_, _*_, _≤_, _<_}
@@ -78,8 +78,8 @@ pub record Component (s : List ℕ) (t : Trace) (m k : ℕ) : Type 0 where
   pub tag : look (part "component_tag" m t) "component_tag" ≡ fieldOf s (8 * k) 8
   pub offset : look (part "component_tag" m t) "pts_offset" ≡ fieldOf s (8 * k + 15) 33
 
--- the UPID of the descriptor with the rows t, which stands at byte `at`: its bytes stand from byte k on
-pub record UpidStands (s : List ℕ) (at : ℕ) (t : Trace) (k n : ℕ) : Type 0 where
+-- the n bytes of the UPID of the descriptor with the rows t, which stands at byte `at`, stand from byte k on
+pub record UpidStands (at : ℕ) (t : Trace) (k n : ℕ) : Type 0 where
   pub starts : 8 * at + size (through "segmentation_upid_length" t) ≡ 8 * k
   pub long : look t "segmentation_upid_length" ≡ n
 
@@ -145,18 +145,18 @@ module _ (s : List ℕ) (at stop : ℕ) (env : Env) (body : Trace) (inside : sto
             ∙ there s (k + 8 + 7) (8 * (at + 13 + 6 * m) + 15) 33 (omega arith) (omega arith) (omega (arith, fits, one .1 .1));
       }
 
-  -- not cancelled
+  -- where it is not cancelled
   module _ (kept : flagOf s (8 * (at + 10)) ≡ false) where
     as-kept : Whole s stop (at + 6) body
     as-kept =
         let place : 8 * (at + 6 + 4) ≡ 8 * (at + 10) = omega arith in
         as-whole (ap (flagOf s) place ∙ kept)
 
-    pub upid-told : UpidStands s at (headed s at body) (upidPlace s (at + 6) + 2) (fieldOf s (8 * (upidPlace s (at + 6) + 1)) 8)
+    pub upid-told : UpidStands at (headed s at body) (upidPlace s (at + 6) + 2) (fieldOf s (8 * (upidPlace s (at + 6) + 1)) 8)
     upid-told =
         let h = as-kept in
         let u : ℕ = upidPlace s (at + 6) in
-        subst (λ (t : Trace). UpidStands s at (headed s at t) (u + 2) (fieldOf s (8 * (u + 1)) 8)) (sym (h .rows))
+        subst (λ (t : Trace). UpidStands at (headed s at t) (u + 2) (fieldOf s (8 * (u + 1)) 8)) (sym (h .rows))
         (record {
           starts = through-size s at stop inside (h .fits);
           long =

@@ -87,7 +87,7 @@ module _ (s : List ℕ) (at : ℕ) (t : Trace) (h : Stands s at t) (kind : kindO
       ≡ Upid.Part (upidPlace s (at + 6) + 2) (fieldOf s (8 * (upidPlace s (at + 6) + 1)) 8)
   upid-part kept =
       let u =
-      subst (λ (x : Trace). UpidStands s at x (upidPlace s (at + 6) + 2) (fieldOf s (8 * (upidPlace s (at + 6) + 1)) 8)) (sym (h .rows))
+      subst (λ (x : Trace). UpidStands at x (upidPlace s (at + 6) + 2) (fieldOf s (8 * (upidPlace s (at + 6) + 1)) 8)) (sym (h .rows))
       (table.upid-told s at (h .stop) (h .env) (h .body) (h .inside) reads kept) in
       let starts : at + size (through "segmentation_upid_length" t) / 8 ≡ upidPlace s (at + 6) + 2 = omega (arith, u .starts) in
       λ i. Upid.Part (starts i) (u .long i)

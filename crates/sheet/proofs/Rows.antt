@@ -18,7 +18,8 @@ use Rattle.section.specs.declared.Verdict.{Verdict}
 use Rattle.section.specs.declared.Verdict.the-variants.{Accepted}
 use Rattle.section.specs.Accept.{acceptRow, verdict, acceptOf}
 use Rattle.section.proofs.Accepted.{accepted-row}
-use Rattle.sheet.specs.Sheet.{sheetOf, orElse, sheetRow, toSheet, toSheetInto, planFor, lengthFor, fitting, filled, summed, sectionOf, isAccepted, isSheetOf, roomFor, rowFor, Judged, sectionRow, toSection, toSectionInto}
+use Rattle.units.specs.Refusals.{orElse}
+use Rattle.sheet.specs.Sheet.{sheetOf, sheetRow, toSheet, toSheetInto, planFor, lengthFor, fitting, filled, summed, sectionOf, isAccepted, isSheetOf, roomFor, rowFor, Judged, sectionRow, toSection, toSectionInto}
 
 -- ---- section to sheet
 

@@ -14,8 +14,8 @@ use Rattle.command_reading.proofs.lists.event.Tie as tie
 quad-requires : tie.Need-quad-requires
 quad-requires c κs = search needs
 
-cast-t8 : tie.Need-cast-t8
-cast-t8 c =
+cast-t9 : tie.Need-cast-t9
+cast-t9 c =
     let a = c .before .before .args in
     omega (arith, field-lt (a .s .now) (8 * a .at) 32)
 
@@ -79,7 +79,7 @@ event-spec =
     tie.close
     (tie.spec
     quad-requires
-    cast-t8
+    cast-t9
     add-flag
     mul-flag
     flag-requires

@@ -1,6 +1,5 @@
 -- `command_reading::lists::insert_component` meets its contract.
 -- Assumes nothing.
-use mathlib.Core.Path.{sym, _∙_}
 use Prim.Native.Nat.{_*_}
 use native.Mathlib.Omega.{arith}
 use Rattle.bits.proofs.Fields.{field-lt}
