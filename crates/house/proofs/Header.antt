@@ -1,0 +1,30 @@
+-- The fields that are read at fixed places of an open section: pts_adjustment and splice_command_type.
+-- Assumes nothing.
+use mathlib.Core.Path.{_≡_, _∙_}
+use mathlib.Core.List.{List}
+use Prim.Native.Nat.{ℕ, _≤_}
+use native.Mathlib.Omega.{arith}
+use lib.ListN.{length}
+use Rattle.bits.specs.Bits.{fieldOf}
+use Rattle.bits.proofs.Within.{field-there}
+use Rattle.grammar.specs.Meaning.{values}
+use Rattle.grammar.specs.Names.{look}
+use Rattle.descriptors.specs.declared.Cursor.{Cursor}
+use Rattle.section.specs.declared.Opened.{Opened}
+use Rattle.section.specs.Accept.{the}
+use Rattle.section.specs.First.{openOf}
+use Rattle.section.proofs.Accepted.{accepted}
+use Rattle.section.proofs.Asked.{is-open}
+use Rattle.command_reading.specs.Command.{typed, commandTrace}
+
+module _ (s : List ℕ) (c : Cursor) (e : openOf s ≡ Opened.Open c) where
+  long : 20 ≤ length s
+  long = accepted s (is-open s c e .allowed) .long
+
+  pub adjustment-there : fieldOf s 39 33 ≡ the s "pts_adjustment"
+  unfolding the
+  adjustment-there = field-there s 39 33 (omega arith) (omega (arith, long))
+
+  pub type-there : fieldOf s 104 8 ≡ look (commandTrace s) "splice_command_type"
+  unfolding commandTrace typed values look
+  type-there = field-there s 104 8 (omega arith) (omega (arith, long))
