@@ -1,6 +1,6 @@
 -- What is still to be walked of an open section's known descriptors, by the step at the cursor.
 -- Assumes nothing.
-use mathlib.Core.Path.{_≡_, refl, sym, ap, ap₂, _∙_}
+use mathlib.Core.Path.{_≡_, sym, ap, _∙_}
 use mathlib.Core.Bool.{true, false}
 use mathlib.Core.List.{List, [], _∷_}
 use Prim.Native.Nat.{ℕ, _≤_, _<_}
@@ -10,7 +10,7 @@ use Rattle.descriptors.specs.declared.Cursor.{Cursor}
 use Rattle.descriptors.specs.declared.Kind.{Kind}
 use Rattle.descriptors.specs.declared.Step.{Step}
 use Rattle.descriptors.specs.Walk.{stepOf}
-use Rattle.descriptors.specs.Loop.{walked, traceAt}
+use Rattle.descriptors.specs.Loop.{walked}
 use Rattle.descriptor_reading.specs.declared.answers.Descriptor.{Descriptor}
 use Rattle.descriptor_reading.specs.Descriptor.{isKnown, knownAmong, standing, descriptorOf}
 use Rattle.descriptor_reading.proofs.Known.{known-first, unknown-first, none-left, none-whole, in-section, too-long}

@@ -1,7 +1,7 @@
--- The other arm of a `match`: what the definitions say of the variants that it stands for.
+-- The other arm of a test or of a `match`: what the definitions say of what it stands for.
 -- Assumes nothing.
 use mathlib.Core.Path.{_≡_, refl, sym, _∙_}
-use mathlib.Core.Bool.{true, false, false≢true}
+use mathlib.Core.Bool.{Bool, true, false, not, false≢true}
 use mathlib.Core.List.{List, [], _∷_}
 use Prim.Native.Nat.{ℕ}
 use types.Run.{OneOf}
@@ -18,6 +18,10 @@ use Rattle.descriptor_reading.proofs.answers.Descriptor as declared-descriptor
 use Rattle.house.specs.declared.answers.Break.{Break}
 use Rattle.house.specs.declared.answers.EffectiveTime.{EffectiveTime}
 use Rattle.house.specs.House.{opens, carried, breakBy, movedBy, effectiveBy}
+
+pub not-false : (b : Bool) → not b ≡ false → b ≡ true
+not-false true e = refl
+not-false false e = sym e
 
 -- a variant whose number is none of the arm's
 not-one : {A : Type 0} (ks : List ℕ) (n : ℕ) → every (λ x. isAmong x ks) ks ≡ true → isAmong n ks ≡ false → OneOf ks n → A
