@@ -1,0 +1,6 @@
+pub mod Blank
+pub mod Walked
+pub mod Rows
+pub mod Numbers
+pub mod Listed
+pub mod Demand3
