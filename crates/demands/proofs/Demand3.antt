@@ -61,6 +61,11 @@ named-rows {t = t} {t′ = t′} f h e = sym (h t) ∙ ap f e ∙ h t′
 
 -- ---- one section
 
+-- the rows of its sheet are its own
+pub sheet-left : (s : List ℕ) → AreBytes s → acceptOf s ≡ Accepted → left (rowsOf (sheetOf s)) ≡ left (sectionTrace s)
+unfolding rowsOf
+sheet-left s hs e = ap (λ (x : List ℕ). left (sectionTrace x)) (section-sheet-section s hs e)
+
 module _ (s : List ℕ) (e : acceptOf s ≡ Accepted) (h : eqb (the s "encrypted_packet") 1 ≡ false) where
   -- its command is read
   command-is : Commands.command s ≡ commandOf (commandTrace s)
@@ -79,12 +84,7 @@ module _ (s : List ℕ) (e : acceptOf s ≡ Accepted) (h : eqb (the s "encrypted
 module _ (s s′ : List ℕ) (hs : AreBytes s) (hs′ : AreBytes s′) (e : acceptOf s ≡ Accepted) (e′ : acceptOf s′ ≡ Accepted)
     (h : eqb (the s "encrypted_packet") 1 ≡ false) (h′ : eqb (the s′ "encrypted_packet") 1 ≡ false) (same : Same (sheetOf s) (sheetOf s′)) where
   alike-rows : Alike s s′
-  unfolding rowsOf
-  alike-rows =
-      alike s s′ e e′ (is-left s e h) (is-left s′ e′ h′)
-      (ap (λ (x : List ℕ). left (sectionTrace x)) (sym (section-sheet-section s hs e))
-      ∙ same
-      ∙ ap (λ (x : List ℕ). left (sectionTrace x)) (section-sheet-section s′ hs′ e′))
+  alike-rows = alike s s′ e e′ (is-left s e h) (is-left s′ e′ h′) (sym (sheet-left s hs e) ∙ same ∙ sheet-left s′ hs′ e′)
 
   -- both are open
   both : {A : Type 0} (refuse : Refusal → A) (answer answer′ : Cursor → A) → answer (firstCursor s) ≡ answer′ (firstCursor s′)
@@ -118,9 +118,9 @@ module _ (s s′ : List ℕ) (hs : AreBytes s) (hs′ : AreBytes s′) (e : acce
       ∙ by-descriptor n upidSaid upid-said-blank
       ∙ sym (unplaced-said (numbered (cursors s′) n .at) (knownTrace s′ (firstCursor s′) n))
 
-  pub demand-3 : OneCue s s′
+  one-cue : OneCue s s′
   unfolding Asks.command Asks.insertComponent Asks.scheduleEvent Asks.eventComponent Asks.privateByte Asks.knownCount Asks.knownDescriptor Asks.dtmfChar Asks.segmentationComponent Asks.audioComponent Asks.upid House.effectiveTime House.dvb House.breakAnswer
-  demand-3 =
+  one-cue =
       record {
         command = both Command.Refused (λ c. Commands.command s) (λ c. Commands.command s′) commands;
         insertComponent = λ n.
@@ -170,6 +170,12 @@ module _ (s s′ : List ℕ) (hs : AreBytes s) (hs′ : AreBytes s′) (e : acce
             (λ i. breakBy (commands i) (readings i));
         labelBytes = λ house. label-is s e h hs house ∙ ap (billed house) (alike-rows .lists) ∙ sym (label-is s′ e′ h′ hs′ house);
       }
+
+-- ---- the demand
+
+pub demand-3 : (s s′ : List ℕ) → AreBytes s → AreBytes s′ → acceptOf s ≡ Accepted → acceptOf s′ ≡ Accepted
+    → eqb (the s "encrypted_packet") 1 ≡ false → eqb (the s′ "encrypted_packet") 1 ≡ false → Same (sheetOf s) (sheetOf s′) → OneCue s s′
+demand-3 = one-cue
 
 -- ---- what is unread
 

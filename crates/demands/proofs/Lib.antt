@@ -4,3 +4,4 @@ pub mod Rows
 pub mod Numbers
 pub mod Listed
 pub mod Demand3
+pub mod Pairs
