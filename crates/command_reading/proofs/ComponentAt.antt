@@ -9,7 +9,7 @@ use native.Mathlib.Omega.{arith}
 use lib.ListN.{length}
 use lib.Dec.{eqb, ltb}
 use borrow.Author.Tests.{le-leb, eq-eqb, ne-eqb, eqb-false, le-ltb, lt-ltb}
-use Rattle.bits.specs.Bits.{bit, num, fieldOf}
+use Rattle.bits.specs.Bits.{bit, num, fieldOf, flagOf}
 use Rattle.bits.proofs.Cases.{by-cases}
 use Rattle.bits.proofs.Fields.{field-lt}
 use Rattle.units.specs.declared.refusals.Refusal.{Refusal}
@@ -25,7 +25,7 @@ use Rattle.commands.specs.Command.{known, tableOf, componentPlace}
 use Rattle.command_reading.specs.declared.answers.SpliceTime.{SpliceTime}
 use Rattle.command_reading.specs.declared.answers.InsertComponent.{InsertComponent}
 use Rattle.command_reading.specs.Command.{commandReading, typed, commandTrace, timeOf, insertComponentOf}
-use Rattle.command_reading.specs.Places.{flagAt, timeAt, insertComponentAt}
+use Rattle.command_reading.specs.Places.{timeAt, insertComponentAt}
 use Rattle.command_reading.proofs.Said.{came, bounds, fits, by-table, trace-is}
 use Rattle.command_reading.proofs.Firsts.{first-end}
 use Rattle.command_reading.proofs.Component.{Component, knowing, component-tells}
@@ -54,16 +54,16 @@ module _ (s : List ℕ) (end n : ℕ) (t : Trace) (e : commandReading s ≡ reac
         let x = told in
         sym (ap (λ (u : Trace). insertComponentOf u n) (trace-is s end t e) ∙ rw (h, le-ltb n (look t "component_count") (omega arith)))
 
-    module _ (goes : flagAt s 144 ≡ false) (apart : flagAt s 153 ≡ false) (l : n < fieldOf s 160 8) where
+    module _ (goes : flagOf s 144 ≡ false) (apart : flagOf s 153 ≡ false) (l : n < fieldOf s 160 8) where
       list : Listed s end t
       list = told .components goes apart
 
       -- when it is spliced
       time : (at : ℕ) (u : Trace) → (fieldOf s 155 1 ≡ 0 → timeOf u ≡ timeAt s (at + 1))
-          → cond (isSet t "splice_immediate_flag") SpliceTime.Immediate (timeOf u) ≡ cond (flagAt s 155) SpliceTime.Immediate (timeAt s (at + 1))
+          → cond (isSet t "splice_immediate_flag") SpliceTime.Immediate (timeOf u) ≡ cond (flagOf s 155) SpliceTime.Immediate (timeAt s (at + 1))
       time at u k =
           ap (λ (b : Bool). cond b SpliceTime.Immediate (timeOf u)) (told .immediate goes)
-          ∙ ⊎-elim (λ b. rw b) (λ b. rw b (k (omega (arith, field-lt s 155 1, eqb-false (fieldOf s 155 1) 1 b)))) (by-cases (flagAt s 155))
+          ∙ ⊎-elim (λ b. rw b) (λ b. rw b (k (omega (arith, field-lt s 155 1, eqb-false (fieldOf s 155 1) 1 b)))) (by-cases (flagOf s 155))
 
       -- where it starts
       pub start : componentPlace s 21 end n (fieldOf s 155 1) ≡ endOf (again n (one s end) 168)
@@ -81,7 +81,7 @@ module _ (s : List ℕ) (end n : ℕ) (t : Trace) (e : commandReading s ≡ reac
           absurd (omega arith)
 
       pub at-place : (at : ℕ) → componentPlace s 21 end n (fieldOf s 155 1) ≡ ends (8 * at)
-          → (at ≤ 4095) × (insertComponentAt s at (flagAt s 155) ≡ insertComponentOf (commandTrace s) n)
+          → (at ≤ 4095) × (insertComponentAt s at (flagOf s 155) ≡ insertComponentOf (commandTrace s) n)
       unfolding insertComponentOf insertComponentAt typed values look
       at-place at q =
           let x = list in

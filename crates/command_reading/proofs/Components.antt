@@ -8,7 +8,7 @@ use Prim.Native.Nat.{ℕ, _*_, _≤_}
 use native.Mathlib.Omega.{arith}
 use lib.ListN.{length}
 use lib.Dec.{eqb}
-use Rattle.bits.specs.Bits.{bit, num, fieldOf}
+use Rattle.bits.specs.Bits.{bit, num, fieldOf, flagOf}
 use Rattle.grammar.specs.Syntax.{Item, field, reserved, is, done, branch}
 use Rattle.grammar.specs.Meaning.{Env, valueOf, values, bind, Reading, reached, again, read}
 use Rattle.grammar.specs.Tables.{splice-time, break-duration, avail-numbers, avails, insert-component, insert-times, splice-insert}
@@ -20,7 +20,6 @@ use Rattle.grammar.proofs.Names.{other, look-none, part-past}
 use Rattle.grammar.proofs.Scope.{scoped}
 use Rattle.grammar.proofs.Telling.{Tells, rows, arm-last, sub, sub-last, some, loop, over}
 use Rattle.command_reading.specs.Command.{typed}
-use Rattle.command_reading.specs.Places.{flagAt}
 use Rattle.command_reading.proofs.Rows.{there, zero-or-one}
 use Rattle.command_reading.proofs.Shorter.{endless, onward}
 use Rattle.command_reading.proofs.Firsts.{agree-one, anew}
@@ -28,7 +27,7 @@ use Rattle.command_reading.proofs.Component.{knowing}
 
 -- how many components the insert from byte 14 on has
 abbrev pub counted : List ℕ → ℕ
-counted s = cond (flagAt s 144) 0 (cond (flagAt s 153) 0 (fieldOf s 160 8))
+counted s = cond (flagOf s 144) 0 (cond (flagOf s 153) 0 (fieldOf s 160 8))
 
 -- one component, up to byte `end`, from place i on
 abbrev pub one : List ℕ → ℕ → ℕ → Reading
@@ -46,8 +45,8 @@ pub record Listed (s : List ℕ) (end : ℕ) (t : Trace) : Type 0 where
 -- what the rows t of the insert say of them
 pub record Insert (s : List ℕ) (end : ℕ) (t : Trace) : Type 0 where
   pub count : look t "component_count" ≡ counted s
-  pub immediate : flagAt s 144 ≡ false → isSet t "splice_immediate_flag" ≡ flagAt s 155
-  pub components : flagAt s 144 ≡ false → flagAt s 153 ≡ false → Listed s end t
+  pub immediate : flagOf s 144 ≡ false → isSet t "splice_immediate_flag" ≡ flagOf s 155
+  pub components : flagOf s 144 ≡ false → flagOf s 153 ≡ false → Listed s end t
 
 -- the rows of an insert up to its flags, and up to its components
 abbrev flagged : List Item → List Item

@@ -9,7 +9,7 @@ use native.Mathlib.Omega.{arith}
 use lib.ListN.{length}
 use lib.Dec.{eqb, ltb}
 use borrow.Author.Tests.{le-ltb, ltb-true}
-use Rattle.bits.specs.Bits.{bit, num, fieldOf}
+use Rattle.bits.specs.Bits.{bit, num, fieldOf, flagOf}
 use Rattle.bits.proofs.Cases.{cond-same}
 use Rattle.units.specs.declared.refusals.Refusal.{Refusal}
 use Rattle.grammar.specs.Syntax.{Item, field, reserved}
@@ -25,7 +25,7 @@ use Rattle.command_reading.specs.declared.answers.EventTime.{EventTime}
 use Rattle.command_reading.specs.declared.answers.Event.{Event}
 use Rattle.command_reading.specs.declared.answers.EventComponent.{EventComponent}
 use Rattle.command_reading.specs.Command.{eventId, availsOf, eventTime, scheduledOf, eventComponentIn}
-use Rattle.command_reading.specs.Places.{flagAt, availsAt, eventTimeAt, eventAt, eventComponentAt}
+use Rattle.command_reading.specs.Places.{availsAt, eventTimeAt, eventAt, eventComponentAt}
 use Rattle.command_reading.proofs.Rows.{there, zero-or-one}
 use Rattle.command_reading.proofs.Avails.{Before, early, avails-tell, avails-said}
 
@@ -44,7 +44,7 @@ component = field 8 "component_tag" ∷ field 32 "utc_splice_time" ∷ []
 -- component m of an event that is not cancelled
 unfoldable listed : List ℕ → ℕ → ℕ → EventComponent
 listed s at m =
-    cond (ltb m (cond (flagAt s (8 * (at + 5) + 1)) 0 (fieldOf s (8 * (at + 6)) 8)))
+    cond (ltb m (cond (flagOf s (8 * (at + 5) + 1)) 0 (fieldOf s (8 * (at + 6)) 8)))
     (EventComponent.Component (fieldOf s (8 * (at + 7 + 5 * m)) 8) (fieldOf s (8 * (at + 8 + 5 * m)) 32))
     (EventComponent.Refused Refusal.NotHere)
 
@@ -78,7 +78,7 @@ module _ (s : List ℕ) (at : ℕ) where
             ∙ one .1,
       )
 
-  listed-part : (w : Trace) (m : ℕ) → flagAt s (8 * (at + 5) + 1) ≡ false → num (bit s) (8 * at + 40 + 8) 8 ≡ fieldOf s (8 * (at + 6)) 8
+  listed-part : (w : Trace) (m : ℕ) → flagOf s (8 * (at + 5) + 1) ≡ false → num (bit s) (8 * at + 40 + 8) 8 ≡ fieldOf s (8 * (at + 6)) 8
       → 8 * at + 40 + 8 + 8 + num (bit s) (8 * at + 40 + 8) 8 * 40 ≤ 8 * length s → eventComponentIn (list w) m ≡ listed s at m
   unfolding opening flags values look eventComponentIn listed
   listed-part w m h e l =

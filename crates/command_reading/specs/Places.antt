@@ -5,7 +5,7 @@ use Prim.Native.Nat.{ℕ, _+_, _-_, _*_, _≤_}
 use mathlib.Core.Bool.{Bool, true, false, cond, _&&_}
 use mathlib.Core.List.{List}
 use lib.Dec.{eqb, ltb}
-use Rattle.bits.specs.Bits.{fieldOf}
+use Rattle.bits.specs.Bits.{fieldOf, flagOf}
 use Rattle.units.specs.declared.refusals.Refusal.{Refusal}
 use Rattle.units.specs.Clock.{ticks}
 use Rattle.command_reading.specs.declared.answers.SpliceTime.{SpliceTime}
@@ -23,18 +23,14 @@ use Rattle.command_reading.specs.declared.lists.Span.{Span}
 use Rattle.grammar.specs.Names.{look}
 use Rattle.command_reading.specs.Command.{commandTrace, isType, eventId, eventRows, scheduledOf, eventComponentIn}
 
--- the bit at place k is 1
-abbrev pub flagAt : List ℕ → ℕ → Bool
-flagAt s k = eqb (fieldOf s k 1) 1
-
 -- splice_time() from byte `at` on
 unfoldable pub timeAt : List ℕ → ℕ → SpliceTime
-timeAt s at = cond (flagAt s (8 * at)) (SpliceTime.Given (ticks (fieldOf s (8 * at + 7) 33))) SpliceTime.NotGiven
+timeAt s at = cond (flagOf s (8 * at)) (SpliceTime.Given (ticks (fieldOf s (8 * at + 7) 33))) SpliceTime.NotGiven
 
 -- break_duration() from byte `at` on, where there is one
 unfoldable pub breakAt : List ℕ → ℕ → Bool → BreakDuration
 breakAt s at duration =
-    cond duration (BreakDuration.Present (flagAt s (8 * at)) (ticks (fieldOf s (8 * at + 7) 33))) BreakDuration.Absent
+    cond duration (BreakDuration.Present (flagOf s (8 * at)) (ticks (fieldOf s (8 * at + 7) 33))) BreakDuration.Absent
 
 -- the end of an event before byte `end`
 unfoldable pub availsAt : List ℕ → ℕ → Bool → Avails
@@ -48,22 +44,22 @@ availsAt s end duration =
 
 -- the time of the insert from byte 14 on
 abbrev pub insertTimeAt : List ℕ → SpliceTime
-insertTimeAt s = cond (flagAt s 155) SpliceTime.Immediate (cond (flagAt s 153) (timeAt s 20) SpliceTime.NotGiven)
+insertTimeAt s = cond (flagOf s 155) SpliceTime.Immediate (cond (flagOf s 153) (timeAt s 20) SpliceTime.NotGiven)
 
 abbrev pub insertModeAt : List ℕ → Mode
-insertModeAt s = cond (flagAt s 153) Mode.Program (Mode.Components (fieldOf s 160 8))
+insertModeAt s = cond (flagOf s 153) Mode.Program (Mode.Components (fieldOf s 160 8))
 
 -- splice_insert() from byte 14 up to `end`
 unfoldable pub insertAt : List ℕ → ℕ → Command
 insertAt s end =
-    cond (flagAt s 144) (Command.CancelledInsert (eventId (fieldOf s 112 32)))
+    cond (flagOf s 144) (Command.CancelledInsert (eventId (fieldOf s 112 32)))
     (Command.Insert
     (record {
       «splice_event_id» = eventId (fieldOf s 112 32);
-      «out_of_network_indicator» = flagAt s 152;
+      «out_of_network_indicator» = flagOf s 152;
       time = insertTimeAt s;
       mode = insertModeAt s;
-      avails = availsAt s end (flagAt s 154);
+      avails = availsAt s end (flagOf s 154);
     }))
 
 -- the component of an insert from byte `at` on
@@ -73,23 +69,23 @@ insertComponentAt s at immediate =
 
 abbrev pub eventTimeAt : List ℕ → ℕ → EventTime
 eventTimeAt s at =
-    cond (flagAt s (8 * (at + 5) + 1)) (EventTime.Program (fieldOf s (8 * (at + 6)) 32)) (EventTime.Components (fieldOf s (8 * (at + 6)) 8))
+    cond (flagOf s (8 * (at + 5) + 1)) (EventTime.Program (fieldOf s (8 * (at + 6)) 32)) (EventTime.Components (fieldOf s (8 * (at + 6)) 8))
 
 -- an event of a schedule from byte `at` up to `end`
 unfoldable pub eventAt : List ℕ → ℕ → ℕ → Event
 eventAt s at end =
-    cond (flagAt s (8 * (at + 4))) (Event.Cancelled (eventId (fieldOf s (8 * at) 32)))
+    cond (flagOf s (8 * (at + 4))) (Event.Cancelled (eventId (fieldOf s (8 * at) 32)))
     (Event.Scheduled
     (record {
       «splice_event_id» = eventId (fieldOf s (8 * at) 32);
-      «out_of_network_indicator» = flagAt s (8 * (at + 5));
+      «out_of_network_indicator» = flagOf s (8 * (at + 5));
       time = eventTimeAt s at;
-      avails = availsAt s end (flagAt s (8 * (at + 5) + 2));
+      avails = availsAt s end (flagOf s (8 * (at + 5) + 2));
     }))
 
 -- how many components the event from byte `at` on has
 abbrev pub componentsAt : List ℕ → ℕ → ℕ
-componentsAt s at = cond (flagAt s (8 * (at + 4))) 0 (cond (flagAt s (8 * (at + 5) + 1)) 0 (fieldOf s (8 * (at + 6)) 8))
+componentsAt s at = cond (flagOf s (8 * (at + 4))) 0 (cond (flagOf s (8 * (at + 5) + 1)) 0 (fieldOf s (8 * (at + 6)) 8))
 
 -- component m of the event from byte `at` on
 unfoldable pub eventComponentAt : List ℕ → ℕ → ℕ → EventComponent

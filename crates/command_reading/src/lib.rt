@@ -54,11 +54,11 @@ pub fn insert_component(s: &[u8], n: usize) -> InsertComponent
         return InsertComponent::Refused(Refusal::NotHere);
     }
     // splice_event_cancel_indicator
-    if parts::flag(s, 144) {
+    if bits::flag(s, 144) {
         return InsertComponent::Refused(Refusal::NotHere);
     }
     // program_splice_flag
-    if parts::flag(s, 153) {
+    if bits::flag(s, 153) {
         return InsertComponent::Refused(Refusal::NotHere);
     }
     // component_count

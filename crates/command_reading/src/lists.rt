@@ -68,15 +68,15 @@ pub(crate) fn event(s: &[u8], at: usize, end: usize) -> Event
     ensures { λ r. ⌜ r ≡ eventAt (now (s .entry)) at end ⌝ }
 {
     let splice_event_id = EventId(bits::quad(s, at) as u32);
-    let splice_event_cancel_indicator = parts::flag(s, 8 * (at + 4));
+    let splice_event_cancel_indicator = bits::flag(s, 8 * (at + 4));
     if splice_event_cancel_indicator {
         return Event::Cancelled(splice_event_id);
     }
     let time = event_time(s, at);
-    let avails = parts::avails(s, end, parts::flag(s, 8 * (at + 5) + 2));
+    let avails = parts::avails(s, end, bits::flag(s, 8 * (at + 5) + 2));
     Event::Scheduled(ScheduledEvent {
         splice_event_id,
-        out_of_network_indicator: parts::flag(s, 8 * (at + 5)),
+        out_of_network_indicator: bits::flag(s, 8 * (at + 5)),
         time,
         avails,
     })
@@ -87,7 +87,7 @@ fn event_time(s: &[u8], at: usize) -> EventTime
     ensures { λ r. ⌜ r ≡ eventTimeAt (now (s .entry)) at ⌝ }
 {
     // program_splice_flag
-    if parts::flag(s, 8 * (at + 5) + 1) {
+    if bits::flag(s, 8 * (at + 5) + 1) {
         EventTime::Program(bits::quad(s, at + 6) as u32)
     } else {
         EventTime::Components(bits::read(s, 8 * (at + 6), 8) as u8)
@@ -100,11 +100,11 @@ fn component_count(s: &[u8], at: usize) -> usize
     ensures { λ r. ⌜ r ≡ componentsAt (now (s .entry)) at ⌝ }
 {
     // splice_event_cancel_indicator
-    if parts::flag(s, 8 * (at + 4)) {
+    if bits::flag(s, 8 * (at + 4)) {
         return 0;
     }
     // program_splice_flag
-    if parts::flag(s, 8 * (at + 5) + 1) {
+    if bits::flag(s, 8 * (at + 5) + 1) {
         0
     } else {
         bits::read(s, 8 * (at + 6), 8) as usize

@@ -1,7 +1,7 @@
 // The parts of a command, by the byte at which they stand.
 ghost use mathlib.Core.Path.{_≡_};
 ghost use Prim.Native.Nat.{_≤_};
-ghost use Rattle.command_reading.specs.Places.{flagAt, timeAt, breakAt, availsAt, insertTimeAt, insertModeAt, insertAt};
+ghost use Rattle.command_reading.specs.Places.{timeAt, breakAt, availsAt, insertTimeAt, insertModeAt, insertAt};
 use crate::answers::Avails;
 use crate::answers::BreakDuration;
 use crate::answers::Command;
@@ -11,19 +11,12 @@ use crate::answers::SpliceTime;
 use units::EventId;
 use units::Ticks;
 
-// Whether the bit at place k is 1.
-pub(crate) fn flag(s: &[u8], k: usize) -> bool
-    ensures { λ r. ⌜ r ≡ flagAt (now (s .entry)) k ⌝ }
-{
-    bits::read(s, k, 1) == 1
-}
-
 // Table 14, from byte `at` on.
 pub(crate) fn splice_time(s: &[u8], at: usize) -> SpliceTime
     requires { ⌜ at ≤ 4096 ⌝ }
     ensures { λ r. ⌜ r ≡ timeAt (now (s .entry)) at ⌝ }
 {
-    if flag(s, 8 * at) {
+    if bits::flag(s, 8 * at) {
         SpliceTime::Given(Ticks(bits::read(s, 8 * at + 7, 33)))
     } else {
         SpliceTime::NotGiven
@@ -37,7 +30,7 @@ fn break_duration(s: &[u8], at: usize, duration_flag: bool) -> BreakDuration
 {
     if duration_flag {
         BreakDuration::Present {
-            auto_return: flag(s, 8 * at),
+            auto_return: bits::flag(s, 8 * at),
             duration: Ticks(bits::read(s, 8 * at + 7, 33)),
         }
     } else {
@@ -66,15 +59,15 @@ pub(crate) fn insert(s: &[u8], end: usize) -> Command
 {
     let splice_event_id = EventId(bits::quad(s, 14) as u32);
     // splice_event_cancel_indicator
-    if flag(s, 144) {
+    if bits::flag(s, 144) {
         return Command::CancelledInsert(splice_event_id);
     }
     let time = insert_time(s);
     let mode = insert_mode(s);
-    let avails = avails(s, end, flag(s, 154));
+    let avails = avails(s, end, bits::flag(s, 154));
     Command::Insert(Insert {
         splice_event_id,
-        out_of_network_indicator: flag(s, 152),
+        out_of_network_indicator: bits::flag(s, 152),
         time,
         mode,
         avails,
@@ -86,11 +79,11 @@ fn insert_time(s: &[u8]) -> SpliceTime
     ensures { λ r. ⌜ r ≡ insertTimeAt (now (s .entry)) ⌝ }
 {
     // splice_immediate_flag
-    if flag(s, 155) {
+    if bits::flag(s, 155) {
         return SpliceTime::Immediate;
     }
     // program_splice_flag
-    if !flag(s, 153) {
+    if !bits::flag(s, 153) {
         return SpliceTime::NotGiven;
     }
     splice_time(s, 20)
@@ -100,7 +93,7 @@ fn insert_mode(s: &[u8]) -> Mode
     ensures { λ r. ⌜ r ≡ insertModeAt (now (s .entry)) ⌝ }
 {
     // program_splice_flag
-    if flag(s, 153) {
+    if bits::flag(s, 153) {
         Mode::Program
     } else {
         Mode::Components(bits::read(s, 160, 8) as u8)

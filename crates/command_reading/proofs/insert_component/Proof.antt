@@ -7,7 +7,7 @@ use Prim.Native.Nat.{ℕ, _*_, _≤_, _<_}
 use native.Mathlib.Omega.{arith}
 use lib.ListN.{getD}
 use lib.Dec.{eqb}
-use Rattle.bits.specs.Bits.{bit, num, fieldOf}
+use Rattle.bits.specs.Bits.{bit, num, fieldOf, flagOf}
 use Rattle.grammar.specs.Meaning.{reached}
 use Rattle.grammar.specs.declared.Ended.{Ended}
 use Rattle.grammar.specs.Traces.{Trace, traceOf}
@@ -15,7 +15,7 @@ use Rattle.grammar.specs.Ended.{outcome}
 use Rattle.grammar.proofs.Places.{octet}
 use Rattle.command_reading.specs.Command.{commandReading, commandTrace, insertComponentOf}
 use Rattle.commands.specs.Command.{componentPlace}
-use Rattle.command_reading.specs.Places.{flagAt, insertComponentAt}
+use Rattle.command_reading.specs.Places.{insertComponentAt}
 use Rattle.bits.proofs.Fields.{field-lt}
 use Rattle.command_reading.proofs.Said.{reached-at, bounds}
 use Rattle.command_reading.proofs.Nothing.{no-component}
@@ -52,10 +52,10 @@ number y = by y .before .before .before .before .args .n
 is-insert : (y : tie.Else3) → num (bit (section (by y))) 104 8 ≡ 0x05
 is-insert y = let b = y .before .before .before .before in type-is (b .before) ∙ b .if1 .left
 
-goes-on : (y : tie.Else3) → flagAt (section (by y)) 144 ≡ false
+goes-on : (y : tie.Else3) → flagOf (section (by y)) 144 ≡ false
 goes-on y = let d = y .before .before in sym (d .before .flag .ensures) ∙ d .if2 .left
 
-apart : (y : tie.Else3) → flagAt (section (by y)) 153 ≡ false
+apart : (y : tie.Else3) → flagOf (section (by y)) 153 ≡ false
 apart y = sym (y .before .flag2 .ensures) ∙ y .if3 .left
 
 few : (z : tie.Else4) → number (z .before .before) < fieldOf (section (by (z .before .before))) 160 8
@@ -71,7 +71,7 @@ placed m =
 
 found : (m : tie.After-insert-component-at) (at : ℕ) → m .insert-component-at .result ≡ Ended.At at
     → let y = m .before .before .before .before in
-    (at ≤ 4095) × (insertComponentAt (section (by y)) at (flagAt (section (by y)) 155) ≡ insertComponentOf (commandTrace (section (by y))) (number y))
+    (at ≤ 4095) × (insertComponentAt (section (by y)) at (flagOf (section (by y)) 155) ≡ insertComponentOf (commandTrace (section (by y))) (number y))
 found m at e =
     let y = m .before .before .before .before in
     at-place (section (by y)) (stop (by y)) (number y) (trace (by y)) (read-to (by y)) (is-insert y) (goes-on y) (apart y) (few (m .before .before)) at

@@ -6,17 +6,17 @@ use mathlib.Core.List.{List}
 use Prim.Native.Nat.{ℕ, _+_, _*_, _<_}
 use native.Mathlib.Omega.{arith}
 use borrow.Author.Tests.{lt-ltb, le-ltb}
-use Rattle.bits.specs.Bits.{fieldOf}
+use Rattle.bits.specs.Bits.{fieldOf, flagOf}
 use Rattle.bits.proofs.Fields.{field-lt}
 use Rattle.command_reading.specs.declared.answers.EventComponent.{EventComponent}
-use Rattle.command_reading.specs.Places.{flagAt, componentsAt, eventComponentAt}
+use Rattle.command_reading.specs.Places.{componentsAt, eventComponentAt}
 use borrow.Author.Needs.{needs}
 use Rattle.command_reading.proofs.lists.event_component.Statement.{statement}
 use Rattle.command_reading.proofs.lists.event_component.Tie as tie
 
 -- there are no more components than a byte counts
 few : (s : List ℕ) (at : ℕ) → componentsAt s at < 256
-few s at = go (flagAt s (8 * (at + 4))) (flagAt s (8 * (at + 5) + 1))
+few s at = go (flagOf s (8 * (at + 4))) (flagOf s (8 * (at + 5) + 1))
   where
     go : (a b : Bool) → cond a 0 (cond b 0 (fieldOf s (8 * (at + 6)) 8)) < 256
     go true b = omega arith
