@@ -4,7 +4,6 @@ mod accept;
 mod crc;
 mod damaged;
 mod fields;
-#[cfg(feature = "house")]
 mod house;
 mod pairs;
 mod published;

@@ -34,21 +34,18 @@ type Said = (&'static str, Answer);
 struct Program {
     name: &'static str,
     ask: fn(&Question, &mut [u8], &[usize]) -> Answer,
-    #[cfg(feature = "house")]
     house: fn(&mut [u8]) -> Vec<Said>,
 }
 
 const SECOND: Program = Program {
     name: "second",
     ask: second,
-    #[cfg(feature = "house")]
     house: house::second,
 };
 
 const PROVED: Program = Program {
     name: "proved",
     ask: proved,
-    #[cfg(feature = "house")]
     house: house::proved,
 };
 
@@ -119,7 +116,6 @@ fn everything(program: &Program, section: &mut [u8]) -> Vec<Said> {
         list(said, program, section, &SEGMENTATION_COMPONENT, &[n]);
         list(said, program, section, &AUDIO_COMPONENT, &[n]);
     }
-    #[cfg(feature = "house")]
     said.extend((program.house)(section));
     std::mem::take(said)
 }
@@ -198,9 +194,6 @@ fn part(bytes: &[u8], offset: u64, length: u64) -> Vec<u64> {
 }
 
 /// The functions whose answers open with the number of a case, and how many cases there are.
-#[cfg(not(feature = "house"))]
-const CASES: [(&str, u64); 2] = [("command", 8), ("known_descriptor", 6)];
-#[cfg(feature = "house")]
 const CASES: [(&str, u64); 5] = [
     ("command", 8),
     ("known_descriptor", 6),
@@ -230,7 +223,6 @@ fn expected() -> Vec<String> {
 }
 
 /// The house answers, the label under one house name.
-#[cfg(feature = "house")]
 mod house {
     use super::{part, written, Answer, Said, PLENTY};
     use crate::proved::house as proved_house;

@@ -1,7 +1,6 @@
 //! The proved library's functions, as its archive libtimpanimist.a offers them to C.
 //! Inputs are taken as `&mut` so that a test can see whether the library leaves them alone.
 
-#[cfg(feature = "house")]
 pub mod house;
 pub mod readings;
 

@@ -1,7 +1,6 @@
 //! The bench: each question is put to both programs, and their answers and the whole of the lent
 //! memory must be equal; each method hands back the answer that they share.
 
-#[cfg(feature = "house")]
 use super::counts::Counts;
 use super::lent::{Cell, Lent};
 use super::met::Met;
@@ -23,7 +22,6 @@ pub struct Bench {
     /// How often each typed answer was given.
     pub met: Met,
     /// How often each house answer was given.
-    #[cfg(feature = "house")]
     pub house: Counts,
 }
 
@@ -37,7 +35,6 @@ impl Bench {
             to_sheet: Tally::default(),
             to_section: Tally::default(),
             met: Met::default(),
-            #[cfg(feature = "house")]
             house: Counts::default(),
         }
     }

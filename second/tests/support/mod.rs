@@ -5,7 +5,6 @@ mod bench;
 pub mod built;
 pub mod counts;
 mod fields;
-#[cfg(feature = "house")]
 pub mod house;
 mod lent;
 mod met;
