@@ -5,6 +5,7 @@
 pub mod bits;
 pub mod crc;
 pub mod hex;
+pub mod house;
 pub mod reading;
 pub mod refusal;
 pub mod section;

@@ -3,7 +3,7 @@
 #![forbid(unsafe_code)]
 
 use second::reading::{self, Reading};
-use second::{bits, crc, hex, refusal, section, sheet, text, units};
+use second::{bits, crc, hex, house, refusal, section, sheet, text, units};
 use std::process::ExitCode;
 
 const USAGE: &str = "\
@@ -22,7 +22,11 @@ usage: second accept HEX                       whether a section is accepted, an
        second segmentation-component HEX N M   segmentation component M of known descriptor N
        second audio-component HEX N M          audio component M of known descriptor N
        second upid HEX N                       where the UPID of known descriptor N lies, and its bytes
-       second numbers QUESTION HEX ..          the answer to one of these eleven as a flat list
+       second break HEX                        the break that a section opens
+       second effective-time HEX               when it splices, with pts_adjustment added
+       second dvb HEX                          whether DVB-DASH allows its command
+       second label HEX HOUSE-HEX              its bill label, under this house name
+       second numbers QUESTION HEX ..          the answer to one of these fifteen as a flat list
        second to-section TEXT [ROOM]           the bytes of a base64 text
        second to-section-hex HEX [ROOM]        the same, the text given as hex bytes
        second to-text HEX [ROOM]               the base64 text of a section
@@ -118,6 +122,10 @@ fn typed(words: &[&[u8]]) -> Result<Typed, Failure> {
             both(reading::audio_component(&section, n, m))
         }
         [b"upid", section, n] => both(reading::upid(&bytes(section)?, number(n)?)),
+        [b"break", section] => both(house::break_answer(&bytes(section)?)),
+        [b"effective-time", section] => both(house::effective_time(&bytes(section)?)),
+        [b"dvb", section] => both(house::dvb(&bytes(section)?)),
+        [b"label", section, house_name] => label(&bytes(section)?, &bytes(house_name)?),
         _ => Err(Failure::Usage(
             "this is not one of the questions".to_string(),
         )),
@@ -130,6 +138,17 @@ fn both(answer: Result<impl Reading, u8>) -> Result<Typed, Failure> {
         listing: reading::listing(&answer).trim_end().to_string(),
         numbers: reading::numbers(&answer),
     })
+}
+
+/// The bytes of the label are told to people too; they are not among its numbers.
+fn label(section: &[u8], house_name: &[u8]) -> Result<Typed, Failure> {
+    let label = house::bill_label(section, house_name);
+    let mut typed = both(Ok(label))?;
+    typed.listing += &match label.bytes() {
+        [] => "\nbytes: no bytes".to_string(),
+        bytes => format!("\nbytes: {}", hex::to_hex(bytes)),
+    };
+    Ok(typed)
 }
 
 fn accept(bytes: &[u8]) -> Result<String, Failure> {

@@ -3,9 +3,12 @@
 
 mod grammar;
 mod pen;
+mod related;
 
 use crate::refusal::SHEET;
 use crate::section::{accept, Item};
+
+pub use related::related;
 
 /// The sheet of a section, or the number of the row, 1 to 10, that refuses the section.
 pub fn sheet_of(section: &[u8]) -> Result<Vec<u64>, u8> {

@@ -166,6 +166,60 @@ fn readings_that_are_refused() {
 }
 
 #[test]
+fn house_answers_of_004() {
+    let section = SECTION_OF_004;
+    answers(
+        &["break", section],
+        "break: 1 (measured)\nticks: 18132042 (0x114ac4a)",
+    );
+    answers(
+        &["effective-time", section],
+        "effective time: 1 (given)\nticks: 3150057 (0x3010e9)",
+    );
+    answers(&["dvb", section], "DVB: 1 (yes)");
+    answers(
+        &["label", section, "486f757365"],
+        "label: 0 (UPID)\noffset: 40 (0x28)\nlength: 8\nbytes: 0000000020fb6501",
+    );
+    numbers(&["break", section], "1 18132042");
+    numbers(&["effective-time", section], "1 3150057");
+    numbers(&["dvb", section], "1");
+    numbers(&["label", section, "486f757365"], "0 40 8");
+}
+
+#[test]
+fn house_answers_of_other_sections() {
+    let null = &section_of("252 0 0 0 0 0 0 0 0 0 0 0 0");
+    answers(&["break", null], "break: 0 (none)");
+    answers(&["effective-time", null], "effective time: 0 (none)");
+    answers(&["dvb", null], "DVB: 0 (no)");
+    answers(
+        &["label", null, "486f757365"],
+        "label: 1 (house name)\nbytes: 486f757365",
+    );
+    answers(
+        &["label", null, ""],
+        "label: 1 (house name)\nbytes: no bytes",
+    );
+    let without = &section_of("252 0 0 0 0 0 0 0 0 0 10 5 9 0 0 1 1 0 1 15 2 3 4 0");
+    answers(&["break", without], "break: 2 (without measure)");
+    let unknown = &section_of("252 0 0 0 0 0 0 0 0 0 0 1 0");
+    answers(&["break", unknown], "break: 3 (unread)");
+    // Sealed, and refused.
+    let sealed = &section_of("252 0 0 0 0 1 0 0 0 0 0 0 0 0 0 0 0 0");
+    answers(&["break", sealed], "break: 3 (unread)");
+    refuses(&["effective-time", sealed], "R 17 SEALED");
+    refuses(&["dvb", sealed], "R 17 SEALED");
+    numbers(&["label", sealed, "00"], "1");
+    let cut = &SECTION_OF_004[..108];
+    refuses(&["break", cut], "R 4 SIZE");
+    refuses(&["effective-time", cut], "R 4 SIZE");
+    refuses(&["dvb", cut], "R 4 SIZE");
+    numbers(&["label", cut, "00"], "1");
+    numbers(&["label", "", ""], "1");
+}
+
+#[test]
 fn answers_are_single_lines() {
     answers(&["to-section", ""], "");
     answers(&["to-section", "Zm9v"], "666f6f");
@@ -192,7 +246,7 @@ fn refusals_carry_number_and_name() {
 
 #[test]
 fn bad_usage_is_told_on_standard_error() {
-    let cases: [&[&str]; 22] = [
+    let cases: [&[&str]; 26] = [
         &[],
         &["sing"],
         &["accept"],
@@ -206,6 +260,10 @@ fn bad_usage_is_told_on_standard_error() {
         &["event", "fc"],
         &["event-component", "fc", "0"],
         &["upid", "fc", "x"],
+        &["break"],
+        &["dvb", "fc", "0"],
+        &["label", "fc"],
+        &["label", "fc", "x"],
         &["numbers", "fc"],
         &["numbers", "sheet", "fc"],
         &["to-section"],

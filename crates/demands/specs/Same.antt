@@ -6,20 +6,9 @@ use Prim.Native.Nat.{ℕ}
 use mathlib.Core.Bool.{Bool, cond, _&&_}
 use mathlib.Core.List.{List, [], _∷_, _++_}
 use lib.Dec.{leb, eqb}
-use Rattle.grammar.specs.Syntax.{Item, field, reserved}
-use Rattle.grammar.specs.Traces.{Trace, numbers}
+use Rattle.grammar.specs.Traces.{Trace, numbers, joined, blank}
 use Rattle.grammar.specs.Names.{Name, isNamed, look, before}
 use Rattle.sheet.specs.Sheet.{sectionTrace, sectionOf}
-
--- ---- reserved fields are set to 0
-
-abbrev pub blankValue : Item → ℕ → ℕ
-blankValue (field w n) v = v
-blankValue (reserved w) v = 0
-
-unfoldable pub blank : Trace → Trace
-blank [] = []
-blank (x ∷ t) = (x .0, blankValue (x .0) (x .1)) ∷ blank t
 
 -- ---- rows are taken out
 
@@ -51,10 +40,6 @@ front t = blank (without "section_length" (before "descriptor_loop_length" t))
 -- the known descriptors
 unfoldable pub descriptors : Trace → List Trace
 descriptors t = own (parts "splice_descriptor_tag" (without "alignment_stuffing" t))
-
-unfoldable pub joined : List Trace → Trace
-joined [] = []
-joined (t ∷ ts) = t ++ joined ts
 
 -- the numbers left of the sheet with these rows
 unfoldable pub left : Trace → List ℕ

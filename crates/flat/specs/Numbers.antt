@@ -1,10 +1,12 @@
 -- A typed answer as a flat list of numbers: where an answer or a part of it has cases, the number of the case and then its values;
 -- a value that is absent has no number.
 -- Assumes nothing.
+use mathlib.Core.Path.{_≡_}
 use Prim.Native.Nat.{ℕ, _+_}
 use mathlib.Core.Bool.{Bool, cond}
 use mathlib.Core.List.{List, [], _∷_, _++_}
-use lib.ListN.{length, set}
+use lib.ListN.{length}
+use lib.Seq.{sets}
 use lib.Dec.{ltb}
 use Rattle.units.specs.declared.refusals.Written.{Written}
 use Rattle.units.specs.Refusals.{numberOf, first, orElse}
@@ -58,12 +60,10 @@ given ns out = answer (givenRow ns out) (length (ns .list))
 unfoldable pub givenInto : Numbers → List ℕ → List ℕ
 givenInto ns out = memory (givenRow ns out) (ns .list) out
 
--- ---- for private functions
-
--- a list with these numbers from place i on
-abbrev pub put : List ℕ → ℕ → List ℕ → List ℕ
-put m i [] = m
-put m i (n ∷ ns) = put (set m i n) (i + 1) ns
+-- what a private function that writes numbers into a list says: they stand from place i on, and j is the place after them
+pub record Put (before : List ℕ) (i : ℕ) (ns : List ℕ) (j : ℕ) (now : List ℕ) : Type 0 where
+  pub place : j ≡ i + length ns
+  pub list : now ≡ sets before i ns
 
 -- ---- parts
 

@@ -4,7 +4,7 @@ mod lists;
 
 ghost use mathlib.Core.Path.{_≡_};
 ghost use Rattle.flat.specs.Numbers.{these, given, givenInto, commandNumbers, insertComponentNumbers, eventNumbers, eventComponentNumbers, privateByteNumbers, knownCountNumbers, descriptorNumbers, dtmfCharNumbers, segmentationComponentNumbers, audioComponentNumbers, upidNumbers, insertNumbers, scheduledNumbers, segmentationNumbers, timeNumbers};
-ghost use mathlib.Core.List.{_∷_};
+ghost use mathlib.Core.List.{[], _∷_};
 use command_reading::Command;
 use command_reading::Event;
 use command_reading::EventComponent;
@@ -28,14 +28,14 @@ pub fn command(answer: Command, out: &mut [u64]) -> Written
     ensures { λ r. ⌜ (r ≡ given (commandNumbers answer) (now (out .entry))) × (now (out .exit) ≡ givenInto (commandNumbers answer) (now (out .entry))) ⌝ }
 {
     match answer {
-        Command::Null => give(&[0], out),
-        Command::Schedule(splice_count) => give(&[1, splice_count as u64], out),
+        Command::Null => give_one(0, out),
+        Command::Schedule(splice_count) => give_two(1, splice_count as u64, out),
         Command::Insert(insert) => give_insert(insert, out),
-        Command::CancelledInsert(id) => give(&[3, id.0 as u64], out),
-        Command::TimeSignal(time) => give_time_signal(time, out),
-        Command::BandwidthReservation => give(&[5], out),
-        Command::Private(identifier, count) => give(&[6, identifier as u64, count as u64], out),
-        Command::Unread => give(&[7], out),
+        Command::CancelledInsert(id) => give_two(3, id.0 as u64, out),
+        Command::TimeSignal(time) => give_timed(4, time, out),
+        Command::BandwidthReservation => give_one(5, out),
+        Command::Private(identifier, count) => give_three(6, identifier as u64, count as u64, out),
+        Command::Unread => give_one(7, out),
         Command::Refused(refusal) => Written::Refused(refusal),
     }
 }
@@ -48,11 +48,13 @@ fn give_insert(insert: Insert, out: &mut [u64]) -> Written
     give(&list[..n], out)
 }
 
-fn give_time_signal(time: SpliceTime, out: &mut [u64]) -> Written
-    ensures { λ r. ⌜ (r ≡ given (these (4 ∷ timeNumbers time)) (now (out .entry))) × (now (out .exit) ≡ givenInto (these (4 ∷ timeNumbers time)) (now (out .entry))) ⌝ }
+// A number and then a time.
+fn give_timed(first: u64, time: SpliceTime, out: &mut [u64]) -> Written
+    ensures { λ r. ⌜ (r ≡ given (these (first ∷ timeNumbers time)) (now (out .entry))) × (now (out .exit) ≡ givenInto (these (first ∷ timeNumbers time)) (now (out .entry))) ⌝ }
 {
-    let mut list = [4u64; 3];
-    let n = lists::time(&mut list, 1, time);
+    let mut list = [0u64; 3];
+    let n = lists::put(&mut list, 0, &[first]);
+    let n = lists::time(&mut list, n, time);
     give(&list[..n], out)
 }
 
@@ -64,18 +66,9 @@ pub fn insert_component(answer: InsertComponent, out: &mut [u64]) -> Written
         InsertComponent::Component {
             component_tag,
             time,
-        } => give_component(component_tag, time, out),
+        } => give_timed(component_tag as u64, time, out),
         InsertComponent::Refused(refusal) => Written::Refused(refusal),
     }
-}
-
-fn give_component(component_tag: u8, time: SpliceTime, out: &mut [u64]) -> Written
-    ensures { λ r. ⌜ (r ≡ given (these («component_tag» ∷ timeNumbers time)) (now (out .entry))) × (now (out .exit) ≡ givenInto (these («component_tag» ∷ timeNumbers time)) (now (out .entry))) ⌝ }
-{
-    let mut list = [0u64; 3];
-    list[0] = component_tag as u64;
-    let n = lists::time(&mut list, 1, time);
-    give(&list[..n], out)
 }
 
 // An event of a schedule.
@@ -84,7 +77,7 @@ pub fn schedule_event(answer: Event, out: &mut [u64]) -> Written
 {
     match answer {
         Event::Scheduled(event) => give_scheduled(event, out),
-        Event::Cancelled(id) => give(&[1, id.0 as u64], out),
+        Event::Cancelled(id) => give_two(1, id.0 as u64, out),
         Event::Refused(refusal) => Written::Refused(refusal),
     }
 }
@@ -105,7 +98,7 @@ pub fn event_component(answer: EventComponent, out: &mut [u64]) -> Written
         EventComponent::Component {
             component_tag,
             utc_splice_time,
-        } => give(&[component_tag as u64, utc_splice_time as u64], out),
+        } => give_two(component_tag as u64, utc_splice_time as u64, out),
         EventComponent::Refused(refusal) => Written::Refused(refusal),
     }
 }
@@ -115,7 +108,7 @@ pub fn private_byte(answer: PrivateByte, out: &mut [u64]) -> Written
     ensures { λ r. ⌜ (r ≡ given (privateByteNumbers answer) (now (out .entry))) × (now (out .exit) ≡ givenInto (privateByteNumbers answer) (now (out .entry))) ⌝ }
 {
     match answer {
-        PrivateByte::Byte(byte) => give(&[byte as u64], out),
+        PrivateByte::Byte(byte) => give_one(byte as u64, out),
         PrivateByte::Refused(refusal) => Written::Refused(refusal),
     }
 }
@@ -125,7 +118,7 @@ pub fn known_count(answer: KnownCount, out: &mut [u64]) -> Written
     ensures { λ r. ⌜ (r ≡ given (knownCountNumbers answer) (now (out .entry))) × (now (out .exit) ≡ givenInto (knownCountNumbers answer) (now (out .entry))) ⌝ }
 {
     match answer {
-        KnownCount::Count(count) => give(&[count as u64], out),
+        KnownCount::Count(count) => give_one(count as u64, out),
         KnownCount::Refused(refusal) => Written::Refused(refusal),
     }
 }
@@ -135,19 +128,19 @@ pub fn known_descriptor(answer: Descriptor, out: &mut [u64]) -> Written
     ensures { λ r. ⌜ (r ≡ given (descriptorNumbers answer) (now (out .entry))) × (now (out .exit) ≡ givenInto (descriptorNumbers answer) (now (out .entry))) ⌝ }
 {
     match answer {
-        Descriptor::Avail(provider_avail_id) => give(&[0, provider_avail_id as u64], out),
+        Descriptor::Avail(provider_avail_id) => give_two(0, provider_avail_id as u64, out),
         Descriptor::Dtmf {
             preroll,
             dtmf_count,
-        } => give(&[1, preroll as u64, dtmf_count as u64], out),
+        } => give_three(1, preroll as u64, dtmf_count as u64, out),
         Descriptor::Segmentation(segmentation) => give_segmentation(segmentation, out),
-        Descriptor::CancelledSegmentation(id) => give(&[3, id.0 as u64], out),
+        Descriptor::CancelledSegmentation(id) => give_two(3, id.0 as u64, out),
         Descriptor::Time {
             tai_seconds,
             tai_ns,
             utc_offset,
         } => give(&[4, tai_seconds, tai_ns as u64, utc_offset as u64], out),
-        Descriptor::Audio(audio_count) => give(&[5, audio_count as u64], out),
+        Descriptor::Audio(audio_count) => give_two(5, audio_count as u64, out),
         Descriptor::Refused(refusal) => Written::Refused(refusal),
     }
 }
@@ -165,7 +158,7 @@ pub fn dtmf_char(answer: DtmfChar, out: &mut [u64]) -> Written
     ensures { λ r. ⌜ (r ≡ given (dtmfCharNumbers answer) (now (out .entry))) × (now (out .exit) ≡ givenInto (dtmfCharNumbers answer) (now (out .entry))) ⌝ }
 {
     match answer {
-        DtmfChar::Char(byte) => give(&[byte as u64], out),
+        DtmfChar::Char(byte) => give_one(byte as u64, out),
         DtmfChar::Refused(refusal) => Written::Refused(refusal),
     }
 }
@@ -178,7 +171,7 @@ pub fn segmentation_component(answer: SegmentationComponent, out: &mut [u64]) ->
         SegmentationComponent::Component {
             component_tag,
             pts_offset,
-        } => give(&[component_tag as u64, pts_offset.0], out),
+        } => give_two(component_tag as u64, pts_offset.0, out),
         SegmentationComponent::Refused(refusal) => Written::Refused(refusal),
     }
 }
@@ -213,9 +206,28 @@ pub fn upid(answer: Upid, out: &mut [u64]) -> Written
     ensures { λ r. ⌜ (r ≡ given (upidNumbers answer) (now (out .entry))) × (now (out .exit) ≡ givenInto (upidNumbers answer) (now (out .entry))) ⌝ }
 {
     match answer {
-        Upid::Part(at, length) => give(&[at as u64, length as u64], out),
+        Upid::Part(at, length) => give_two(at as u64, length as u64, out),
         Upid::Refused(refusal) => Written::Refused(refusal),
     }
+}
+
+// One number, two, and three.
+fn give_one(a: u64, out: &mut [u64]) -> Written
+    ensures { λ r. ⌜ (r ≡ given (these (a ∷ [])) (now (out .entry))) × (now (out .exit) ≡ givenInto (these (a ∷ [])) (now (out .entry))) ⌝ }
+{
+    give(&[a], out)
+}
+
+fn give_two(a: u64, b: u64, out: &mut [u64]) -> Written
+    ensures { λ r. ⌜ (r ≡ given (these (a ∷ b ∷ [])) (now (out .entry))) × (now (out .exit) ≡ givenInto (these (a ∷ b ∷ [])) (now (out .entry))) ⌝ }
+{
+    give(&[a, b], out)
+}
+
+fn give_three(a: u64, b: u64, c: u64, out: &mut [u64]) -> Written
+    ensures { λ r. ⌜ (r ≡ given (these (a ∷ b ∷ c ∷ [])) (now (out .entry))) × (now (out .exit) ≡ givenInto (these (a ∷ b ∷ c ∷ [])) (now (out .entry))) ⌝ }
+{
+    give(&[a, b, c], out)
 }
 
 // The numbers, written to the front of out, if it has room for them.
@@ -225,8 +237,5 @@ fn give(numbers: &[u64], out: &mut [u64]) -> Written
     if out.len() < numbers.len() {
         return Written::Refused(Refusal::Room);
     }
-    for i in 0..numbers.len() {
-        out[i] = numbers[i];
-    }
-    Written::Count(numbers.len())
+    Written::Count(lists::put(out, 0, numbers))
 }

@@ -14,3 +14,5 @@ pub mod Readings
 pub mod Each
 pub mod Telling
 pub mod Names
+pub mod Endless
+pub mod Determined

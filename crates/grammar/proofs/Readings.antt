@@ -23,11 +23,11 @@ pub record Split (r : Reading) (g : ℕ → Reading) (j : ℕ) (t : Trace) : Typ
   pub went : g mid ≡ reached j right
   pub joined : t ≡ left ++ right
 
-if-parts : (b : Bool) (r : Reading) {j : ℕ} {t : Trace} → cond b r (broken 0) ≡ reached j t → (b ≡ true) × (r ≡ reached j t)
+pub if-parts : (b : Bool) (r : Reading) {j : ℕ} {t : Trace} → cond b r (broken 0) ≡ reached j t → (b ≡ true) × (r ≡ reached j t)
 if-parts true r e = (refl, e)
 if-parts false r e = let z : _≡_ {A = ℕ} 0 1 = cc in absurd (omega arith)
 
-after-parts : (u : Trace) (r : Reading) {j : ℕ} {t : Trace} → after u r ≡ reached j t → (v : Trace) × (r ≡ reached j v) × (t ≡ u ++ v)
+pub after-parts : (u : Trace) (r : Reading) {j : ℕ} {t : Trace} → after u r ≡ reached j t → (v : Trace) × (r ≡ reached j v) × (t ≡ u ++ v)
 unfolding after
 after-parts u (broken n) e = let z : _≡_ {A = ℕ} 0 1 = cc in absurd (omega arith)
 after-parts u (reached k v) {j} {t} e =
@@ -42,13 +42,13 @@ then-parts (reached k u) g e =
     let on = after-parts u (g k) e in
     record { mid = k; left = u; right = on .0; came = refl; went = on .1; joined = on .2 }
 
-numbered-parts : (n : ℕ) (r : Reading) {j : ℕ} {t : Trace} → numbered n r ≡ reached j t → r ≡ reached j t
+pub numbered-parts : (n : ℕ) (r : Reading) {j : ℕ} {t : Trace} → numbered n r ≡ reached j t → r ≡ reached j t
 unfolding numbered
 numbered-parts n (broken zero) e = let z : _≡_ {A = ℕ} 0 1 = cc in absurd (omega arith)
 numbered-parts n (broken (suc m)) e = let z : _≡_ {A = ℕ} 0 1 = cc in absurd (omega arith)
 numbered-parts n (reached k t) e = e
 
-exactly-parts : (end : ℕ) (r : Reading) {j : ℕ} {t : Trace} → exactly end r ≡ reached j t → (r ≡ reached j t) × (j ≡ end)
+pub exactly-parts : (end : ℕ) (r : Reading) {j : ℕ} {t : Trace} → exactly end r ≡ reached j t → (r ≡ reached j t) × (j ≡ end)
 unfolding exactly
 exactly-parts end (broken n) e = let z : _≡_ {A = ℕ} 0 1 = cc in absurd (omega arith)
 exactly-parts end (reached k u) {j} e =

@@ -1,4 +1,4 @@
--- Traces: of some rows, one after another, and their rows read again from other bits.
+-- Traces: of some rows, one after another, their rows read again from other bits, and their reserved values set to 0.
 -- Assumes nothing.
 use mathlib.Core.Path.{_≡_, refl, sym, ap, ap₂, _∙_}
 use mathlib.Core.List.{List, [], _∷_, _++_}
@@ -9,7 +9,7 @@ use Rattle.bits.specs.Bits.{num}
 use Rattle.bits.proofs.Num.{num-ext}
 use Rattle.grammar.specs.Syntax.{Item, field, reserved}
 use Rattle.grammar.specs.Meaning.{Env, widthOf, width, values, bind, bindOne}
-use Rattle.grammar.specs.Traces.{Trace, rowsOf, size, numbers, spans, keeps, namedSpans}
+use Rattle.grammar.specs.Traces.{Trace, rowsOf, size, numbers, spans, keeps, namedSpans, blankValue, blank}
 
 -- ---- of some rows
 
@@ -102,3 +102,15 @@ fits (x ∷ t) = (x .1 < 2 ^ widthOf (x .0)) × fits t
 pub fits-append : (u v : Trace) → fits u → fits v → fits (u ++ v)
 fits-append [] v h l = l
 fits-append (x ∷ u) v h l = (h .0, fits-append u v (h .1) l)
+
+-- ---- reserved values set to 0
+
+pub blank-append : (t u : Trace) → blank (t ++ u) ≡ blank t ++ blank u
+unfolding blank
+blank-append [] u = refl
+blank-append (x ∷ t) u = ap (λ (v : Trace). (x .0, blankValue (x .0) (x .1)) ∷ v) (blank-append t u)
+
+pub blank-rows : (t : Trace) → rowsOf (blank t) ≡ rowsOf t
+unfolding blank rowsOf
+blank-rows [] = refl
+blank-rows (x ∷ t) = ap (λ (rows : List Item). x .0 ∷ rows) (blank-rows t)

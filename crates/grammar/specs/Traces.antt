@@ -1,7 +1,7 @@
 -- What is said of a trace: how many bits it covers, which bits it stands for, and when two differ in reserved values alone.
 -- Assumes nothing.
 use mathlib.Core.Path.{_≡_}
-use mathlib.Core.List.{List, [], _∷_}
+use mathlib.Core.List.{List, [], _∷_, _++_}
 use Prim.Native.Nat.{ℕ, _+_}
 use Rattle.bits.specs.Bits.{num}
 use Rattle.grammar.specs.Syntax.{Item, field, reserved}
@@ -30,6 +30,11 @@ unfoldable pub numbers : Trace → List ℕ
 numbers [] = []
 numbers (x ∷ t) = x .1 ∷ numbers t
 
+-- traces one after another
+unfoldable pub joined : List Trace → Trace
+joined [] = []
+joined (t ∷ ts) = t ++ joined ts
+
 -- each row's value is the number that the bits of f make at its place, the first at place k
 abbrev pub spans : (ℕ → ℕ) → ℕ → Trace → Type 0
 spans f k [] = Unit {0}
@@ -53,3 +58,12 @@ alike [] [] = Unit {0}
 alike [] (y ∷ u) = ⊥
 alike (x ∷ t) [] = ⊥
 alike (x ∷ t) (y ∷ u) = (x .0 ≡ y .0) × keeps (x .0) (x .1) (y .1) × alike t u
+
+-- a reserved value is set to 0
+abbrev pub blankValue : Item → ℕ → ℕ
+blankValue (field w n) v = v
+blankValue (reserved w) v = 0
+
+unfoldable pub blank : Trace → Trace
+blank [] = []
+blank (x ∷ t) = (x .0, blankValue (x .0) (x .1)) ∷ blank t

@@ -10,10 +10,11 @@ use lib.ListN.{length}
 use lib.Dec.{leb, ltb, eqb}
 use borrow.Author.Tests.{leb-true}
 use Rattle.bits.proofs.Cases.{and-left, and-right}
-use Rattle.grammar.specs.Syntax.{Item, Test, Prog, is, among, more, done, stop, fields, branch, call, repeat, frame, fill, under}
+use Rattle.grammar.specs.Syntax.{Item, Prog, done, stop, fields, branch, call, repeat, frame, fill, under}
 use Rattle.grammar.specs.Meaning.{Env, valueOf, widthOf, width, values, bind, holds, Reading, reached, then, again, sweep, exactly, read}
 use Rattle.grammar.specs.Traces.{Trace, rowsOf, size}
 use Rattle.grammar.specs.Tables.{splice-info-section, payload, sized-command, command, splice-schedule, schedule-event, schedule-times, avails, break-duration, avail-numbers, splice-insert, insert-times, insert-component, splice-time, private-command, descriptor-loop, splice-descriptor, known-descriptor, avail-descriptor, dtmf-descriptor, segmentation-descriptor, delivery, segmentation-components, segmentation-end, time-descriptor, audio-descriptor}
+use Rattle.grammar.proofs.Endless.{asksNoEnd, endless, same-test}
 use Rattle.grammar.proofs.Ends.{Gives, breaks, gives, given, when-gives, after-gives, then-gives, numbered-gives}
 use Rattle.layout.specs.Layout.{Source, Plan, laid, widthsOf, names, timesOn, walk}
 
@@ -126,28 +127,6 @@ section-thin f end j t e = trace-thin splice-info-section section-slim [] f end 
 
 -- ---- the end
 
-abbrev pub asksNoEnd : Test → Bool
-asksNoEnd (is n v) = true
-asksNoEnd (among n vs) = true
-asksNoEnd more = false
-
--- nothing in it goes by where it ends, but in a part of its own
-unfoldable pub endless : Prog → Bool
-endless done = true
-endless stop = true
-endless (fields rows p) = endless p
-endless (branch t a b p) = asksNoEnd t && (endless a && (endless b && endless p))
-endless (call a p) = endless a && endless p
-endless (repeat n a p) = endless a && endless p
-endless (frame n a p) = endless p
-endless (fill a p) = false
-endless (under n a p) = endless a && endless p
-
-same-test : (t : Test) → asksNoEnd t ≡ true → (env : Env) (end end′ k : ℕ) → holds t env end k ≡ holds t env end′ k
-same-test (is n v) h env end end′ k = refl
-same-test (among n vs) h env end end′ k = refl
-same-test more h env end end′ k = absurd (false≢true h)
-
 times-same : {g h : Plan → Plan} → ((π : Plan) → g π ≡ h π) → (n : ℕ) (π : Plan) → timesOn n g π ≡ timesOn n h π
 times-same l n π = ap (λ (g : Plan → Plan). timesOn n g π) (fun-ext l)
 
@@ -159,7 +138,7 @@ any-end (fields rows p) h env v end end′ π = any-end p h (names rows v (π .a
 any-end (branch t a b p) h env v end end′ π =
     let arms = and-right (asksNoEnd t) _ h in
     let rest = and-right (endless a) _ arms in
-    let test = same-test t (and-left (asksNoEnd t) (endless a && (endless b && endless p)) h) env end end′ (π .at) in
+    let test = same-test t (and-left (asksNoEnd t) (endless a && (endless b && endless p)) h) env end end′ (π .at) (π .at) in
     let first = any-end a (and-left (endless a) _ arms) env v end end′ π in
     let second = any-end b (and-left (endless b) _ rest) env v end end′ π in
     any-end p (and-right (endless b) _ rest) env v end end′ _ ∙ (λ i. walk p env v end′ (cond (test i) (first i) (second i)))

@@ -42,5 +42,5 @@ module _ (s : List ℕ) (n at l : ℕ) (e : upid s n ≡ Upid.Part at l) where
   part-values hs =
       let o = of-open in
       ap (partOf s) e
-      ∙ upid-part s (o .0) n at l hs (o .2)
+      ∙ upid-part s (o .0) n at l (o .2) hs
       ∙ ap (λ (c : Cursor). allOf (knownTrace s c n) "segmentation_upid") (is-open s (o .0) (o .1) .cursor)

@@ -2,8 +2,13 @@
 
 mod accept;
 mod crc;
+mod damaged;
 mod fields;
+#[cfg(feature = "house")]
+mod house;
+mod pairs;
 mod published;
+mod reading;
 mod section_edges;
 mod sheet;
 mod text_edges;

@@ -1,6 +1,10 @@
 //! The proved library's functions, as its archive libtimpanimist.a offers them to C.
 //! Inputs are taken as `&mut` so that a test can see whether the library leaves them alone.
 
+#[cfg(feature = "house")]
+pub mod house;
+pub mod readings;
+
 #[link(name = "timpanimist", kind = "static")]
 extern "C" {
     fn timpanimist_crc32(bytes: *const u8, len: usize) -> u32;

@@ -2,6 +2,7 @@
 
 use crate::built::{any_section, Size};
 use crate::random;
+use second::house;
 use second::reading::{self, entries, Entry, Reading};
 use std::collections::BTreeSet;
 
@@ -89,6 +90,10 @@ fn answers_follow_the_table() {
         let section = &any_section(random, Size::Short).bytes;
         table.holds("command", reading::command(section));
         table.holds("descriptor count", reading::descriptor_count(section));
+        table.holds("break", house::break_answer(section));
+        table.holds("effective time", house::effective_time(section));
+        table.holds("DVB", house::dvb(section));
+        table.holds("label", Ok(house::bill_label(section, b"a house name")));
         for n in 0..3 {
             table.holds("insert component", reading::insert_component(section, n));
             table.holds("event", reading::event(section, n));

@@ -1,7 +1,10 @@
 //! The bench: each question is put to both programs, and their answers and the whole of the lent
 //! memory must be equal; each method hands back the answer that they share.
 
+#[cfg(feature = "house")]
+use super::counts::Counts;
 use super::lent::{Cell, Lent};
+use super::met::Met;
 use super::random::{seed, Random};
 use super::report::{pasted_text, same_answer, same_memory, AcceptAnswer, CountAnswer, CrcAnswer};
 use super::tally::Tally;
@@ -17,6 +20,11 @@ pub struct Bench {
     pub to_sheet: Tally,
     /// The same for sheets that are asked for their sections.
     pub to_section: Tally,
+    /// How often each typed answer was given.
+    pub met: Met,
+    /// How often each house answer was given.
+    #[cfg(feature = "house")]
+    pub house: Counts,
 }
 
 impl Bench {
@@ -28,6 +36,9 @@ impl Bench {
             tally: Tally::default(),
             to_sheet: Tally::default(),
             to_section: Tally::default(),
+            met: Met::default(),
+            #[cfg(feature = "house")]
+            house: Counts::default(),
         }
     }
 
@@ -71,7 +82,7 @@ impl Bench {
         input: &[I],
         room: usize,
         answer: &Result<Vec<O>, u8>,
-        proved: fn(&mut [I], &mut [O]) -> u64,
+        mut proved: impl FnMut(&mut [I], &mut [O]) -> u64,
         paste: impl Fn() -> String,
     ) {
         let before = Lent::holding(&mut self.random, input);

@@ -1,12 +1,19 @@
 //! What the comparison tests share: the random numbers, the lent memory, the reports, the
-//! built sections, their fields and the bench.
+//! built sections, their fields, the typed questions and the bench.
 
 mod bench;
 pub mod built;
+pub mod counts;
 mod fields;
+#[cfg(feature = "house")]
+pub mod house;
 mod lent;
+mod met;
+pub mod questions;
 mod random;
+mod readings;
 mod report;
+mod rooms;
 mod sheets;
 mod tally;
 

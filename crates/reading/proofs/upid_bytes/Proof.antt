@@ -1,9 +1,9 @@
 -- `reading::upid_bytes` meets its contract: the part that `upid` names lies in the section.
 -- Assumes nothing.
 use mathlib.Core.Path.{_≡_, sym, ap, _∙_}
-use Prim.Native.Nat.{ℕ, _+_, _≤_}
+use Prim.Native.Nat.{ℕ, _+_, _-_, _≤_}
 use native.Mathlib.Omega.{arith}
-use lib.ListN.{length}
+use lib.ListN.{length, take, drop}
 use borrow.Author.Needs.{needs}
 use Rattle.reading.specs.Reading.{partOf, upidBytes}
 use Rattle.reading.proofs.UpidBytes.{part-within}
@@ -11,7 +11,7 @@ use Rattle.reading.proofs.upid_bytes.Statement.{statement}
 use Rattle.reading.proofs.upid_bytes.Tie as tie
 
 -- where the part ends
-within : (t : tie.After-at) → t .at .given .0 .0 + t .at .given .0 .1 ≤ length (t .before .before .before .before .args .section .now)
+within : (t : tie.After-at) → t .at .given .0 .0 + t .at .given .0 .1 .0 ≤ length (t .before .before .before .before .args .section .now)
 within t = part-within _ _ _ _ (sym (t .before .before .upid .ensures) ∙ t .at .given .1)
 
 upid-requires : tie.Need-upid-requires
@@ -44,7 +44,13 @@ part-result-end c = within (c .before)
 
 returns-2 : tie.Need-returns-2
 unfolding upidBytes partOf
-returns-2 c = ?
+returns-2 c =
+    let s = c .before .before .before .before .before .before .args .section .now in
+    let at : ℕ = c .before .before .at .given .0 .0 in
+    let l : ℕ = c .before .before .at .given .0 .1 .0 in
+    let count : at + l - at ≡ l = omega arith in
+    ap (λ (m : ℕ). take m (drop at s)) count
+    ∙ sym (ap (partOf s) (sym (c .before .before .before .before .upid .ensures) ∙ c .before .before .at .given .1))
 
 pub upid-bytes-spec : {M : Type 1} → statement M
 upid-bytes-spec =

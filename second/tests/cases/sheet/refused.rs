@@ -2,13 +2,8 @@
 //! written. Some are still accepted, and those go there and back.
 
 use super::there;
-use crate::cases::accept::faults::faulty;
-use crate::support::built::{
-    any_section, cut, grown, longest_section, sealed, with_crc, with_length_and_crc, Built, Size,
-};
+use crate::cases::damaged;
 use crate::support::Bench;
-use second::bits::{read_field, write_field};
-use second::refusal::{CRYPT, DESCRIPTOR, SHORT};
 
 /// How often each row, acceptance and ROOM are reached at least.
 const OFTEN: u64 = 300;
@@ -17,113 +12,6 @@ const OFTEN: u64 = 300;
 #[test]
 fn every_row() {
     let mut bench = Bench::new();
-    every_set_of_faults(&mut bench);
-    bytes(&mut bench);
-    cuts(&mut bench);
-    lengths(&mut bench);
-    sealed_ones(&mut bench);
-    long_ones(&mut bench);
+    damaged::every_kind(&mut bench, there);
     bench.to_sheet.reached(0..=11, OFTEN);
-}
-
-/// The row that answers is the first of the faults.
-fn every_set_of_faults(bench: &mut Bench) {
-    for _ in 0..4 {
-        for faults in 0..1 << 10 {
-            let faults = faults << 1;
-            let section = faulty(bench, faults);
-            let first = (SHORT..=DESCRIPTOR).find(|row| faults >> row & 1 == 1);
-            assert_eq!(there(bench, &section), first.unwrap_or(0), "{faults:#b}");
-        }
-    }
-}
-
-/// Each byte changed in turn, the CRC put right and left wrong.
-fn bytes(bench: &mut Bench) {
-    for _ in 0..150 {
-        let built = any_section(&mut bench.random, Size::Short);
-        for at in 0..built.bytes.len() {
-            let byte = built.bytes[at];
-            let other = bench.random.number() as u8;
-            for value in [0, 0xFF, byte.wrapping_add(1), byte.wrapping_sub(1), other] {
-                try_byte(bench, &built, at, value);
-            }
-        }
-    }
-}
-
-fn try_byte(bench: &mut Bench, built: &Built, at: usize, value: u8) {
-    let mut section = built.bytes.clone();
-    section[at] = value;
-    there(bench, &with_crc(&section));
-    if bench.random.once_in(8) {
-        there(bench, &section);
-    }
-}
-
-/// Cut at each length and grown, section_length and the CRC put right, or one of them.
-fn cuts(bench: &mut Bench) {
-    for _ in 0..150 {
-        let built = any_section(&mut bench.random, Size::Short);
-        for count in 0..=built.bytes.len() {
-            there(bench, &built.bytes[..count]);
-            if count >= 4 {
-                there(bench, &cut(&built.bytes, count));
-                there(bench, &with_crc(&built.bytes[..count]));
-            }
-        }
-        for count in 1..=6 {
-            let more = bench.random.bytes(count);
-            there(bench, &grown(&built.bytes, &more));
-        }
-    }
-}
-
-/// Each length and count changed, the CRC put right.
-fn lengths(bench: &mut Bench) {
-    for _ in 0..600 {
-        let built = any_section(&mut bench.random, Size::Short);
-        for mark in &built.marks {
-            let all = (1 << mark.width) - 1;
-            let now = read_field(&built.bytes, mark.at, mark.width);
-            let other = bench.random.field(mark.width);
-            for value in [0, all, (now + 1) & all, now.wrapping_sub(1) & all, other] {
-                let mut section = built.bytes.clone();
-                write_field(&mut section, mark.at, mark.width, value);
-                there(bench, &with_crc(&section));
-            }
-        }
-    }
-}
-
-/// Sealed sections around the fewest bytes that they may have.
-fn sealed_ones(bench: &mut Bench) {
-    for _ in 0..100 {
-        let section = sealed(&mut bench.random, 12).bytes;
-        for count in 20..=section.len() {
-            let row = there(bench, &cut(&section, count));
-            assert_eq!(row, if count < 24 { CRYPT } else { 0 });
-        }
-    }
-}
-
-/// Long sections and the longest: a byte changed, a cut, one byte too many.
-fn long_ones(bench: &mut Bench) {
-    for _ in 0..100 {
-        let built = any_section(&mut bench.random, Size::Long);
-        for _ in 0..4 {
-            let at = bench.random.within(0..=built.bytes.len() - 1);
-            let value = bench.random.number() as u8;
-            try_byte(bench, &built, at, value);
-            let count = bench.random.within(20..=built.bytes.len());
-            there(bench, &cut(&built.bytes, count));
-        }
-    }
-    for _ in 0..20 {
-        let built = longest_section(&mut bench.random);
-        for count in [1, 2, 3, 4096] {
-            let more = bench.random.bytes(count);
-            there(bench, &with_length_and_crc(&grown(&built.bytes, &more)));
-        }
-    }
 }

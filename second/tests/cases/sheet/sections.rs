@@ -5,7 +5,7 @@ use crate::support::built::{
     any_section, middling_section, sealed, section, section_with_length, Command, Descriptor,
     Segmentation, Size, Writer, SUB_SEGMENT_TYPES,
 };
-use crate::support::{Bench, Random};
+use crate::support::Bench;
 use second::refusal::DESCRIPTOR;
 
 /// A run covers 15,000 short sections.
@@ -43,32 +43,6 @@ fn of_sealed_bytes() {
     }
 }
 
-fn commands(random: &mut Random, size: Size) -> [Command; 7] {
-    [
-        Command::null(),
-        Command::bandwidth_reservation(),
-        Command::time_signal(random),
-        Command::insert(random, size),
-        Command::schedule(random, size),
-        Command::private(random, size),
-        Command::unknown(random, size),
-    ]
-}
-
-fn descriptors(random: &mut Random, size: Size) -> [Writer; 7] {
-    let dtmf_count = random.within(0..=7);
-    let audio_count = random.within(0..=15);
-    [
-        Descriptor::avail(random),
-        Descriptor::dtmf(random, dtmf_count),
-        Segmentation::any(random, size).descriptor(random),
-        Descriptor::time(random),
-        Descriptor::audio(random, audio_count),
-        Descriptor::foreign(random, size),
-        Descriptor::with_another_tag(random, size),
-    ]
-}
-
 /// Every command with every descriptor, with and without stuffing, its length written out and,
 /// where it ends by itself, left open.
 #[test]
@@ -76,13 +50,13 @@ fn every_command_with_every_descriptor() {
     let mut bench = Bench::new();
     for _ in 0..12 {
         for at in 0..7 {
-            for command in commands(&mut bench.random, Size::Short) {
+            for command in Command::every(&mut bench.random, Size::Short) {
                 for open in [false, true] {
                     if open && !command.ends_by_itself {
                         continue;
                     }
                     let random = &mut bench.random;
-                    let descriptor = descriptors(random, Size::Long)[at].clone();
+                    let descriptor = Descriptor::every(random, Size::Long)[at].clone();
                     let stuffing = random.within(0..=3);
                     let stuffing = random.bytes(stuffing);
                     let command = command.clone();

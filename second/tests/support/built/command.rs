@@ -30,6 +30,19 @@ impl Command {
         }
     }
 
+    /// One of each.
+    pub fn every(random: &mut Random, size: Size) -> [Command; 7] {
+        [
+            Command::null(),
+            Command::bandwidth_reservation(),
+            Command::time_signal(random),
+            Command::insert(random, size),
+            Command::schedule(random, size),
+            Command::private(random, size),
+            Command::unknown(random, size),
+        ]
+    }
+
     pub fn null() -> Command {
         Command::that_ends_by_itself(0x00, Writer::default())
     }
@@ -45,28 +58,49 @@ impl Command {
     }
 
     pub fn insert(random: &mut Random, size: Size) -> Command {
-        let mut part = Writer::default();
-        part.put(32, random.field(32));
-        let cancelled = random.once_in(5);
-        part.put(1, u64::from(cancelled));
-        part.put(7, random.field(7));
-        if !cancelled {
-            splicing(random, &mut part, size);
+        if random.once_in(5) {
+            return Command::cancelled_insert(random);
         }
+        let program = random.once_in(2);
+        let components = (!program).then(|| size.count(random));
+        let immediate = random.once_in(2);
+        Command::uncancelled_insert(random, components, immediate)
+    }
+
+    pub fn cancelled_insert(random: &mut Random) -> Command {
+        let mut part = Writer::default();
+        event_id(random, &mut part, true);
         Command::that_ends_by_itself(0x05, part)
     }
 
+    /// An insert of so many components, or of the program.
+    pub fn uncancelled_insert(
+        random: &mut Random,
+        components: Option<usize>,
+        immediate: bool,
+    ) -> Command {
+        let mut part = Writer::default();
+        event_id(random, &mut part, false);
+        splicing(random, &mut part, components, immediate);
+        Command::that_ends_by_itself(0x05, part)
+    }
+
+    /// A schedule of random events, as many of them as there is room for.
     pub fn schedule(random: &mut Random, size: Size) -> Command {
-        let wanted = size.count(random);
         let mut events = Vec::new();
         let mut room = ROOM;
-        for _ in 0..wanted {
-            let event = event(random, size);
+        for _ in 0..size.count(random) {
+            let chosen = Event::any(random, size);
+            let event = chosen.part(random);
             if event.count() <= room {
                 room -= event.count();
                 events.push(event);
             }
         }
+        Command::schedule_of(events)
+    }
+
+    pub fn schedule_of(events: Vec<Writer>) -> Command {
         let mut part = Writer::default();
         part.marked("splice_count", 8, events.len() as u64);
         for event in events {
@@ -76,9 +110,14 @@ impl Command {
     }
 
     pub fn private(random: &mut Random, size: Size) -> Command {
+        let count = size.count(random);
+        Command::private_of(random, count)
+    }
+
+    /// A private command with so many bytes behind its identifier.
+    pub fn private_of(random: &mut Random, count: usize) -> Command {
         let mut part = Writer::default();
         part.put(32, random.field(32));
-        let count = size.count(random);
         part.bytes(&random.bytes(count));
         Command {
             kind: 0xFF,
@@ -114,11 +153,48 @@ impl Command {
     }
 }
 
+/// An event of a schedule, by what it splices.
+#[derive(Clone, Copy)]
+pub enum Event {
+    Cancelled,
+    Program,
+    Components(usize),
+}
+
+impl Event {
+    pub fn any(random: &mut Random, size: Size) -> Event {
+        if random.once_in(3) {
+            Event::Cancelled
+        } else if random.once_in(3) {
+            Event::Components(size.count(random))
+        } else {
+            Event::Program
+        }
+    }
+
+    pub fn part(self, random: &mut Random) -> Writer {
+        let mut part = Writer::default();
+        event_id(random, &mut part, matches!(self, Event::Cancelled));
+        match self {
+            Event::Cancelled => {}
+            Event::Program => event_splicing(random, &mut part, None),
+            Event::Components(count) => event_splicing(random, &mut part, Some(count)),
+        }
+        part
+    }
+}
+
+/// splice_event_id, whether the event is cancelled, and the reserved bits behind it.
+fn event_id(random: &mut Random, part: &mut Writer, cancelled: bool) {
+    part.put(32, random.field(32));
+    part.put(1, u64::from(cancelled));
+    part.put(7, random.field(7));
+}
+
 /// What an insert holds that is not cancelled.
-fn splicing(random: &mut Random, part: &mut Writer, size: Size) {
-    let program = random.once_in(2);
+fn splicing(random: &mut Random, part: &mut Writer, components: Option<usize>, immediate: bool) {
+    let program = components.is_none();
     let duration = random.once_in(2);
-    let immediate = random.once_in(2);
     part.put(1, random.field(1));
     part.put(1, u64::from(program));
     part.put(1, u64::from(duration));
@@ -127,8 +203,7 @@ fn splicing(random: &mut Random, part: &mut Writer, size: Size) {
     if program && !immediate {
         splice_time(random, part);
     }
-    if !program {
-        let count = size.count(random);
+    if let Some(count) = components {
         part.marked("component_count", 8, count as u64);
         for _ in 0..count {
             part.put(8, random.field(8));
@@ -143,37 +218,27 @@ fn splicing(random: &mut Random, part: &mut Writer, size: Size) {
     part.put(32, random.field(32));
 }
 
-/// An event of a schedule.
-fn event(random: &mut Random, size: Size) -> Writer {
-    let mut part = Writer::default();
-    part.put(32, random.field(32));
-    let cancelled = random.once_in(3);
-    part.put(1, u64::from(cancelled));
-    part.put(7, random.field(7));
-    if cancelled {
-        return part;
-    }
-    let program = !random.once_in(3);
+/// What an event of a schedule holds that is not cancelled.
+fn event_splicing(random: &mut Random, part: &mut Writer, components: Option<usize>) {
     let duration = random.once_in(2);
     part.put(1, random.field(1));
-    part.put(1, u64::from(program));
+    part.put(1, u64::from(components.is_none()));
     part.put(1, u64::from(duration));
     part.put(5, random.field(5));
-    if program {
-        part.put(32, random.field(32));
-    } else {
-        let count = size.count(random);
-        part.marked("component_count", 8, count as u64);
-        for _ in 0..count {
-            part.put(8, random.field(8));
-            part.put(32, random.field(32));
+    match components {
+        None => part.put(32, random.field(32)),
+        Some(count) => {
+            part.marked("component_count", 8, count as u64);
+            for _ in 0..count {
+                part.put(8, random.field(8));
+                part.put(32, random.field(32));
+            }
         }
     }
     if duration {
-        break_duration(random, &mut part);
+        break_duration(random, part);
     }
     part.put(32, random.field(32));
-    part
 }
 
 fn splice_time(random: &mut Random, part: &mut Writer) {

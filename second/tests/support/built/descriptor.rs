@@ -29,6 +29,21 @@ impl Descriptor {
         }
     }
 
+    /// One of each.
+    pub fn every(random: &mut Random, size: Size) -> [Writer; 7] {
+        let dtmf_count = random.within(0..=7);
+        let audio_count = random.within(0..=15);
+        [
+            Descriptor::avail(random),
+            Descriptor::dtmf(random, dtmf_count),
+            Segmentation::any(random, size).descriptor(random),
+            Descriptor::time(random),
+            Descriptor::audio(random, audio_count),
+            Descriptor::foreign(random, size),
+            Descriptor::with_another_tag(random, size),
+        ]
+    }
+
     pub fn avail(random: &mut Random) -> Writer {
         let mut body = Writer::default();
         body.put(32, random.field(32));
@@ -86,6 +101,32 @@ impl Descriptor {
         let tag = random.within(5..=255) as u8;
         let body = any_body(random, size);
         Descriptor::whole(tag, CUEI, body)
+    }
+
+    /// An unknown one that holds what a segmentation descriptor of a cue does: its identifier or its
+    /// tag is another.
+    pub fn look_alike(random: &mut Random) -> Writer {
+        let body = Segmentation::of_a_cue(random).body(random);
+        if random.once_in(3) {
+            let tag = random.within(5..=255) as u8;
+            Descriptor::whole(tag, CUEI, body)
+        } else {
+            Descriptor::whole(2, CUEI ^ 1 << random.within(0..=31), body)
+        }
+    }
+
+    /// An unknown one of any sort.
+    pub fn unknown(random: &mut Random) -> Writer {
+        let size = if random.once_in(10) {
+            Size::Long
+        } else {
+            Size::Short
+        };
+        match random.within(0..=3) {
+            0 => Descriptor::foreign(random, size),
+            1 => Descriptor::with_another_tag(random, size),
+            _ => Descriptor::look_alike(random),
+        }
     }
 
     pub fn known(tag: u8, body: Writer) -> Writer {

@@ -3,14 +3,16 @@
 
 mod command;
 mod descriptor;
+mod partner;
 mod repair;
 mod segmentation;
 mod writer;
 
 use super::random::Random;
 
-pub use command::Command;
+pub use command::{Command, Event};
 pub use descriptor::Descriptor;
+pub use partner::{partner, Partner, CHANGES};
 pub use repair::{cut, grown, with_crc, with_length_and_crc};
 pub use segmentation::{Segmentation, SUB_SEGMENT_TYPES};
 pub use writer::{Mark, Writer};
@@ -20,6 +22,9 @@ pub const LONGEST: usize = 4096;
 
 /// The bytes before splice_command_type, and those of the CRC.
 const AROUND: usize = 13 + 4;
+
+/// The byte and the bit of encrypted_packet.
+const ENCRYPTED_PACKET: (usize, u8) = (4, 0x80);
 
 /// How long the lists are.
 #[derive(Clone, Copy, PartialEq, Eq)]
@@ -69,6 +74,36 @@ pub fn any_section(random: &mut Random, size: Size) -> Built {
     };
     let stuffing = random.bytes(stuffing.min(room));
     section(random, command, descriptors, &stuffing)
+}
+
+/// A section of the sort that opens a break: a time signal or an insert, with segmentation
+/// descriptors of which some open one, and others among them.
+pub fn cue(random: &mut Random) -> Built {
+    let command = match random.within(0..=3) {
+        0 => Command::insert(random, Size::Short),
+        _ => Command::time_signal(random),
+    };
+    let count = random.within(0..=4);
+    let descriptors = (0..count).map(|_| match random.within(0..=7) {
+        0 => Descriptor::look_alike(random),
+        1 => Descriptor::any(random, Size::Short),
+        _ => Segmentation::of_a_cue(random).descriptor(random),
+    });
+    let descriptors = descriptors.collect();
+    section(random, command, descriptors, &[])
+}
+
+/// A section that is not sealed, and often a cue.
+pub fn unsealed_section(random: &mut Random) -> Built {
+    if random.once_in(2) {
+        return cue(random);
+    }
+    loop {
+        let built = any_section(random, Size::Short);
+        if built.bytes[ENCRYPTED_PACKET.0] & ENCRYPTED_PACKET.1 == 0 {
+            return built;
+        }
+    }
 }
 
 /// A section that is not short, but not so long that to try all its places takes long.

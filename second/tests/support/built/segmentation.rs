@@ -7,6 +7,9 @@ use super::{Random, Size};
 /// The types that may carry the two sub-segment bytes.
 pub const SUB_SEGMENT_TYPES: [u8; 8] = [0x30, 0x32, 0x34, 0x36, 0x38, 0x3A, 0x44, 0x46];
 
+/// The types that open a break.
+const OPENING_TYPES: [u8; 5] = [0x22, 0x30, 0x32, 0x34, 0x36];
+
 /// The most bytes of a body behind its identifier.
 const ROOM: usize = 251;
 
@@ -48,6 +51,24 @@ impl Segmentation {
         chosen
     }
 
+    /// One as it comes with a break: often of a type that opens one, or of a type beside these.
+    pub fn of_a_cue(random: &mut Random) -> Segmentation {
+        let mut chosen = Segmentation::any(random, Size::Short);
+        chosen.type_id = match random.within(0..=3) {
+            0 | 1 => random.one_of(&OPENING_TYPES),
+            2 => random.one_of(&OPENING_TYPES) ^ 1 << random.within(0..=7),
+            _ => chosen.type_id,
+        };
+        let may_have_more = SUB_SEGMENT_TYPES.contains(&chosen.type_id);
+        chosen.behind = if may_have_more && random.once_in(2) {
+            2
+        } else {
+            0
+        };
+        chosen.upid = chosen.upid.min(chosen.most_upid());
+        chosen
+    }
+
     /// The longest UPID that there is room for.
     pub fn most_upid(&self) -> usize {
         let components = self.components.map_or(0, |count| 1 + 6 * count);
@@ -56,6 +77,11 @@ impl Segmentation {
     }
 
     pub fn descriptor(&self, random: &mut Random) -> Writer {
+        Descriptor::known(2, self.body(random))
+    }
+
+    /// What stands behind the identifier.
+    pub fn body(&self, random: &mut Random) -> Writer {
         let mut body = Writer::default();
         body.put(32, random.field(32));
         body.put(1, u64::from(self.cancelled));
@@ -63,7 +89,7 @@ impl Segmentation {
         if !self.cancelled {
             self.segment(random, &mut body);
         }
-        Descriptor::known(2, body)
+        body
     }
 
     fn segment(&self, random: &mut Random, body: &mut Writer) {

@@ -1,0 +1,162 @@
+//! Each house answer held against what the typed readings and the sheet tell.
+
+use crate::built::{any_section, cue, unsealed_section, with_crc, Size};
+use crate::counts::Counts;
+use crate::random;
+use second::house::{bill_label, break_answer, dvb, effective_time};
+use second::house::{Break, Dvb, EffectiveTime, Label};
+use second::reading::{self, Command, Descriptor, Mode, Segmentation, Time};
+use second::refusal::SEALED;
+use second::sheet::sheet_of;
+
+const HOUSE: &[u8] = b"a house name";
+
+/// The place of pts_adjustment on a sheet.
+const PTS_ADJUSTMENT: usize = 7;
+
+/// The uncancelled segmentation descriptors, with their numbers among the known ones.
+fn segmentations(section: &[u8]) -> Vec<(u64, Segmentation)> {
+    let count = reading::descriptor_count(section).unwrap();
+    let known = (0..count).map(|n| (n, reading::descriptor(section, n).unwrap()));
+    known
+        .filter_map(|(n, descriptor)| match descriptor {
+            Descriptor::Segmentation(segmentation) => Some((n, segmentation)),
+            _ => None,
+        })
+        .collect()
+}
+
+fn told_break(section: &[u8], command: &Command) -> Break {
+    let ticks = match command {
+        Command::Unread => return Break::Unread,
+        Command::Insert(insert) if insert.out_of_network_indicator => {
+            insert.break_duration.map(|duration| duration.duration)
+        }
+        Command::TimeSignal(_) => {
+            let all = segmentations(section);
+            let opening = |type_id| matches!(type_id, 34 | 48 | 50 | 52 | 54);
+            if !all.iter().any(|(_, it)| opening(it.segmentation_type_id)) {
+                return Break::None;
+            }
+            let mut longest = None;
+            for (_, segmentation) in all {
+                // None is less than any duration.
+                longest = longest.max(segmentation.segmentation_duration);
+            }
+            longest
+        }
+        _ => return Break::None,
+    };
+    ticks.map_or(Break::WithoutMeasure, |ticks| Break::Measured { ticks })
+}
+
+fn told_time(section: &[u8], command: &Command) -> EffectiveTime {
+    let time = match command {
+        Command::TimeSignal(time) => *time,
+        Command::Insert(insert) if insert.mode == Mode::Program => insert.time,
+        _ => Time::NotGiven,
+    };
+    let Time::Given(pts_time) = time else {
+        return EffectiveTime::None;
+    };
+    let sum = pts_time + sheet_of(section).unwrap()[PTS_ADJUSTMENT];
+    let ticks = if sum < 1 << 33 { sum } else { sum - (1 << 33) };
+    EffectiveTime::At { ticks }
+}
+
+fn told_dvb(command: &Command) -> Dvb {
+    match command {
+        Command::Insert(_) | Command::CancelledInsert { .. } | Command::TimeSignal(_) => Dvb::Yes,
+        _ => Dvb::No,
+    }
+}
+
+fn told_label(section: &[u8]) -> Label<'_> {
+    let first = segmentations(section)
+        .into_iter()
+        .find(|(_, segmentation)| segmentation.segmentation_upid_length > 0);
+    match first {
+        None => Label::HouseName(HOUSE),
+        Some((n, _)) => {
+            let upid = reading::upid(section, n).unwrap();
+            Label::Upid {
+                offset: upid.offset,
+                bytes: upid.bytes,
+            }
+        }
+    }
+}
+
+/// Every house answer of any bytes is what the readings tell, or the refusal that they have.
+fn same_answers(counts: &mut Counts, section: &[u8]) {
+    let label = bill_label(section, HOUSE);
+    match reading::command(section) {
+        Ok(command) => {
+            let opened = told_break(section, &command);
+            assert_eq!(break_answer(section), Ok(opened));
+            assert_eq!(effective_time(section), Ok(told_time(section, &command)));
+            assert_eq!(dvb(section), Ok(told_dvb(&command)));
+            assert_eq!(label, told_label(section));
+            count(counts, opened, label);
+        }
+        Err(refused) => {
+            let opened = if refused == SEALED {
+                Ok(Break::Unread)
+            } else {
+                Err(refused)
+            };
+            assert_eq!(break_answer(section), opened);
+            assert_eq!(effective_time(section), Err(refused));
+            assert_eq!(dvb(section), Err(refused));
+            assert_eq!(label, Label::HouseName(HOUSE));
+            counts.count("refused");
+        }
+    }
+}
+
+fn count(counts: &mut Counts, opened: Break, label: Label) {
+    counts.count(match opened {
+        Break::None => "no break",
+        Break::Measured { ticks: 0 } => "a break of 0",
+        Break::Measured { .. } => "a break",
+        Break::WithoutMeasure => "a break without measure",
+        Break::Unread => "unread",
+    });
+    counts.count(match label {
+        Label::Upid { .. } => "a UPID for a label",
+        Label::HouseName(_) => "the house name",
+    });
+}
+
+#[test]
+fn answers_are_what_the_readings_tell() {
+    let random = &mut random();
+    let counts = &mut Counts::default();
+    for _ in 0..5_000 {
+        same_answers(counts, &any_section(random, Size::Short).bytes);
+        same_answers(counts, &cue(random).bytes);
+    }
+    for _ in 0..10 {
+        same_answers(counts, &any_section(random, Size::Long).bytes);
+    }
+    // A section with a byte changed is often another that is accepted.
+    for _ in 0..200 {
+        let section = unsealed_section(random).bytes;
+        for at in 0..section.len() {
+            let mut section = section.clone();
+            section[at] = random.number() as u8;
+            same_answers(counts, &with_crc(&section));
+        }
+    }
+    let expected = [
+        "no break",
+        "a break of 0",
+        "a break",
+        "a break without measure",
+        "unread",
+        "a UPID for a label",
+        "the house name",
+        "refused",
+    ];
+    counts.reached(&expected.map(String::from), 50);
+}

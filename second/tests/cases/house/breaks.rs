@@ -1,0 +1,162 @@
+//! What opens a break and what measures it: every type, durations at their edges, durations in every
+//! place, and descriptors that are cancelled or only look like one.
+
+use crate::support::built::{section, Command, Descriptor, Segmentation, Size, Writer};
+use crate::support::house::BREAK;
+use crate::support::Bench;
+
+/// The types that open a break (01, after 003).
+const OPENING_TYPES: [u8; 5] = [0x22, 0x30, 0x32, 0x34, 0x36];
+
+/// Durations around the edges of 32, 33 and 40 bits.
+const TICKS: [u64; 10] = [
+    0,
+    1,
+    89,
+    (1 << 32) - 1,
+    1 << 32,
+    (1 << 33) - 1,
+    1 << 33,
+    (1 << 33) + 5,
+    1 << 39,
+    (1 << 40) - 1,
+];
+
+pub fn all(bench: &mut Bench) {
+    for _ in 0..4 {
+        every_type(bench);
+        longest_of_three(bench);
+    }
+    under_other_commands(bench);
+    inserts(bench);
+}
+
+/// A segment of this type, with this duration or none.
+fn segment(bench: &mut Bench, type_id: u8, duration: Option<u64>) -> Writer {
+    let random = &mut bench.random;
+    let mut body = Writer::default();
+    body.put(32, random.field(32));
+    body.put(8, random.field(7));
+    body.put(1, 1);
+    body.put(1, u64::from(duration.is_some()));
+    body.put(6, random.field(6));
+    if let Some(ticks) = duration {
+        body.put(40, ticks);
+    }
+    // No UPID.
+    body.put(16, 0);
+    body.put(8, u64::from(type_id));
+    body.put(16, random.field(16));
+    body
+}
+
+fn known(bench: &mut Bench, type_id: u8, duration: Option<u64>) -> Writer {
+    Descriptor::known(2, segment(bench, type_id, duration))
+}
+
+/// The break of a time signal with these descriptors.
+fn signal(bench: &mut Bench, list: Vec<Writer>) -> Vec<u64> {
+    let random = &mut bench.random;
+    let command = Command::time_signal(random);
+    let built = section(random, command, list, &[]);
+    bench.ask_house(&built.bytes);
+    let answer = bench.house_answer(&BREAK, &built.bytes);
+    answer.expect("an accepted section")
+}
+
+/// Alone, with a duration and without, and where it is unknown or cancelled.
+fn every_type(bench: &mut Bench) {
+    for type_id in 0..=255 {
+        let opens = OPENING_TYPES.contains(&type_id);
+        let ticks = bench.random.one_of(&TICKS);
+        let timed = known(bench, type_id, Some(ticks));
+        let expected = if opens { vec![1, ticks] } else { vec![0] };
+        assert_eq!(signal(bench, vec![timed]), expected);
+        let untimed = known(bench, type_id, None);
+        let expected = if opens { 2 } else { 0 };
+        assert_eq!(signal(bench, vec![untimed]), [expected]);
+        let body = segment(bench, type_id, Some(ticks));
+        let foreign = Descriptor::whole(2, 0x4355_4548, body.clone());
+        assert_eq!(signal(bench, vec![foreign]), [0]);
+        let another_tag = Descriptor::whole(5, 0x4355_4549, body);
+        assert_eq!(signal(bench, vec![another_tag]), [0]);
+    }
+}
+
+/// One opens the break, others stand around it: the longest duration of the known ones measures it.
+fn longest_of_three(bench: &mut Bench) {
+    for opening_at in 0..3 {
+        for first in durations() {
+            for second in durations() {
+                let third = bench.random.one_of(&durations());
+                let all = [first, second, third];
+                let mut list = Vec::new();
+                for (at, duration) in all.into_iter().enumerate() {
+                    let opening = bench.random.one_of(&OPENING_TYPES);
+                    let type_id = if at == opening_at { opening } else { 0x10 };
+                    list.push(known(bench, type_id, duration));
+                    if bench.random.once_in(3) {
+                        list.push(longer_that_counts_for_nothing(bench));
+                    }
+                }
+                let longest = all.into_iter().flatten().max();
+                let expected = longest.map_or(vec![2], |ticks| vec![1, ticks]);
+                assert_eq!(signal(bench, list), expected);
+            }
+        }
+    }
+}
+
+fn durations() -> Vec<Option<u64>> {
+    let some = [0, 7, 1 << 32, 1 << 33, (1 << 40) - 1].map(Some);
+    [[None].as_slice(), &some].concat()
+}
+
+/// Cancelled, or unknown with the longest duration that there is.
+fn longer_that_counts_for_nothing(bench: &mut Bench) -> Writer {
+    let random = &mut bench.random;
+    if random.once_in(3) {
+        let mut chosen = Segmentation::any(random, Size::Short);
+        chosen.cancelled = true;
+        return chosen.descriptor(random);
+    }
+    let tag = if random.once_in(2) { 2 } else { 9 };
+    let identifier = if tag == 2 { 0x4355_4541 } else { 0x4355_4549 };
+    let body = segment(bench, 0x34, Some((1 << 40) - 1));
+    Descriptor::whole(tag, identifier, body)
+}
+
+/// A descriptor that would open a break, behind every command.
+fn under_other_commands(bench: &mut Bench) {
+    for _ in 0..100 {
+        for command in Command::every(&mut bench.random, Size::Short) {
+            let ticks = bench.random.one_of(&TICKS);
+            let list = vec![known(bench, 0x34, Some(ticks))];
+            let built = section(&mut bench.random, command, list, &[]);
+            bench.ask_house(&built.bytes);
+        }
+    }
+}
+
+/// Inserts of every form; half of them go out of the network, half have a duration.
+fn inserts(bench: &mut Bench) {
+    for _ in 0..400 {
+        let random = &mut bench.random;
+        let mut commands = vec![Command::cancelled_insert(random)];
+        for immediate in [false, true] {
+            for components in [None, Some(0), Some(2)] {
+                let command = Command::uncancelled_insert(random, components, immediate);
+                commands.push(command);
+            }
+        }
+        for command in commands {
+            let ticks = bench.random.one_of(&TICKS);
+            let mut list = vec![];
+            if bench.random.once_in(2) {
+                list.push(known(bench, 0x34, Some(ticks)));
+            }
+            let built = section(&mut bench.random, command, list, &[]);
+            bench.ask_house(&built.bytes);
+        }
+    }
+}

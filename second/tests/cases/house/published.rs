@@ -1,0 +1,45 @@
+//! The samples that the papers print; of 004's cue and of 003's first text the figures of 01.
+
+use crate::cases::published::{DAMAGED, WHOLE};
+use crate::support::built::with_length_and_crc;
+use crate::support::house::{BREAK, DVB, EFFECTIVE_TIME};
+use crate::support::Bench;
+use second::text::text_to_section;
+
+const HOUSE_NAME: &[u8] = b"a house name";
+
+pub fn samples(bench: &mut Bench) {
+    the_cue_of_004(bench);
+    the_restored_first_text_of_003(bench);
+    for text in WHOLE {
+        bench.ask_house(&sample(text));
+    }
+    for text in DAMAGED {
+        bench.ask_house(&sample(text));
+        bench.ask_house(&with_length_and_crc(&sample(text)));
+    }
+}
+
+fn sample(text: &str) -> Vec<u8> {
+    text_to_section(text.as_bytes(), 4096).unwrap()
+}
+
+fn the_cue_of_004(bench: &mut Bench) {
+    let section = sample(WHOLE[0]);
+    assert_eq!(bench.house_answer(&BREAK, &section), Ok(vec![1, 18132042]));
+    assert_eq!(bench.ticks_to_millis(18132042), 201467);
+    let time = bench.house_answer(&EFFECTIVE_TIME, &section);
+    assert_eq!(time, Ok(vec![1, 3150057]));
+    assert_eq!(bench.house_answer(&DVB, &section), Ok(vec![1]));
+    assert_eq!(bench.bill_label(&section, HOUSE_NAME), [0, 40, 8]);
+}
+
+fn the_restored_first_text_of_003(bench: &mut Bench) {
+    let section = sample(WHOLE[1]);
+    assert_eq!(bench.house_answer(&BREAK, &section), Ok(vec![1, 2160000]));
+    assert_eq!(bench.ticks_to_millis(2160000), 24000);
+    let time = bench.house_answer(&EFFECTIVE_TIME, &section);
+    assert_eq!(time, Ok(vec![0]));
+    assert_eq!(bench.house_answer(&DVB, &section), Ok(vec![1]));
+    assert_eq!(bench.bill_label(&section, HOUSE_NAME), [1, 0, 12]);
+}
