@@ -3,9 +3,8 @@
 use Prim.Native.Nat.{ℕ}
 use mathlib.Core.Bool.{Bool, false, cond, _||_}
 use mathlib.Core.List.{List, [], _∷_}
-use lib.ListN.{length, take, drop}
+use lib.ListN.{take, drop}
 use lib.Dec.{leb, ltb, eqb}
-use Rattle.units.specs.declared.clock.Ticks.{Ticks}
 use Rattle.units.specs.declared.refusals.Refusal.{Refusal}
 use Rattle.units.specs.Refusals.{numberOf}
 use Rattle.units.specs.Clock.{ticks, clockSum}
@@ -13,7 +12,6 @@ use Rattle.grammar.specs.Meaning.{isAmong}
 use Rattle.grammar.specs.Names.{look}
 use Rattle.descriptors.specs.declared.Cursor.{Cursor}
 use Rattle.descriptors.specs.Loop.{traceAt}
-use Rattle.section.specs.declared.Opened.{Opened}
 use Rattle.section.specs.Accept.{the}
 use Rattle.section.specs.First.{openOf}
 use Rattle.command_reading.specs.declared.answers.SpliceTime.{SpliceTime}

@@ -86,7 +86,10 @@ fn open_time(s: &[u8], pts_adjustment: Ticks) -> EffectiveTime
     ensures { λ r. ⌜ r ≡ effectiveBy («pts_adjustment» .0) (command_says.command (now (s .entry))) ⌝ }
 {
     match command_reading::command(s) {
-        Command::Insert(insert) => moved_by(pts_adjustment, insert.time),
+        Command::Insert(insert) => {
+            let time = insert.time;
+            moved_by(pts_adjustment, time)
+        }
         Command::TimeSignal(time) => moved_by(pts_adjustment, time),
         Command::Refused(refusal) => EffectiveTime::Refused(refusal),
         _ => EffectiveTime::None,
