@@ -2,6 +2,7 @@
 // and then a length. An answer that is a count or a refusal is one number: the count, or 2^63 plus the refusal's number.
 ghost use mathlib.Core.Path.{_≡_};
 ghost use Prim.Native.Nat.{_<_, _^_};
+ghost use lib.ListN.{length};
 ghost use Rattle.bits.specs.Bits.{fieldOf, writable, writtenOf};
 ghost use Rattle.units.specs.Clock.{ticks, millisOf, clockSum};
 ghost use Rattle.crc.specs.Crc.{crc32};
@@ -10,7 +11,8 @@ ghost use Rattle.text.specs.Text.{readInto, writeInto};
 ghost use Rattle.section.specs.Accept.{acceptOf};
 ghost use Rattle.sheet.specs.Sheet.{toSheet, toSheetInto, toSection, toSectionInto};
 ghost use Rattle.reading.specs.Reading as says;
-ghost use Rattle.flat.specs.Numbers.{given, givenInto, commandNumbers, insertComponentNumbers, eventNumbers, eventComponentNumbers, privateByteNumbers, knownCountNumbers, descriptorNumbers, dtmfCharNumbers, segmentationComponentNumbers, audioComponentNumbers, upidNumbers};
+ghost use Rattle.house.specs.House as house_says;
+ghost use Rattle.flat.specs.Numbers.{given, givenInto, commandNumbers, insertComponentNumbers, eventNumbers, eventComponentNumbers, privateByteNumbers, knownCountNumbers, descriptorNumbers, dtmfCharNumbers, segmentationComponentNumbers, audioComponentNumbers, upidNumbers, breakAnswerNumbers, effectiveTimeNumbers, dvbNumbers, labelNumbers};
 ghost use Rattle.exports.specs.Wire.{wire, rowNumber};
 use section::Verdict;
 use units::Ticks;
@@ -180,6 +182,43 @@ pub extern "C" fn timpanimist_upid(section: &[u8], n: usize, out: &mut [u64]) ->
 {
     let answer = reading::upid(section, n);
     number(flat::upid(answer, out))
+}
+
+// Whether the section opens a break, and how long it lasts.
+#[no_mangle]
+pub extern "C" fn timpanimist_break(section: &[u8], out: &mut [u64]) -> u64
+    ensures { λ r. ⌜ (r ≡ wire (given (breakAnswerNumbers (house_says.breakAnswer (now (section .entry)))) (now (out .entry)))) × (now (out .exit) ≡ givenInto (breakAnswerNumbers (house_says.breakAnswer (now (section .entry)))) (now (out .entry))) ⌝ }
+{
+    let answer = house::break_answer(section);
+    number(flat::break_answer(answer, out))
+}
+
+// When the splice takes place on the stream's own clock.
+#[no_mangle]
+pub extern "C" fn timpanimist_effective_time(section: &[u8], out: &mut [u64]) -> u64
+    ensures { λ r. ⌜ (r ≡ wire (given (effectiveTimeNumbers (house_says.effectiveTime (now (section .entry)))) (now (out .entry)))) × (now (out .exit) ≡ givenInto (effectiveTimeNumbers (house_says.effectiveTime (now (section .entry)))) (now (out .entry))) ⌝ }
+{
+    let answer = house::effective_time(section);
+    number(flat::effective_time(answer, out))
+}
+
+// Whether the section passes the first DVB-DASH check.
+#[no_mangle]
+pub extern "C" fn timpanimist_dvb(section: &[u8], out: &mut [u64]) -> u64
+    ensures { λ r. ⌜ (r ≡ wire (given (dvbNumbers (house_says.dvb (now (section .entry)))) (now (out .entry)))) × (now (out .exit) ≡ givenInto (dvbNumbers (house_says.dvb (now (section .entry)))) (now (out .entry))) ⌝ }
+{
+    let answer = house::dvb(section);
+    number(flat::dvb(answer, out))
+}
+
+// Which bytes the break is billed under: in which slice they lie, 0 the section and 1 the house's name, where in it, and how
+// many they are.
+#[no_mangle]
+pub extern "C" fn timpanimist_bill_label(section: &[u8], house: &[u8], out: &mut [u64]) -> u64
+    ensures { λ r. ⌜ (r ≡ wire (given (labelNumbers (length (now (house .entry))) (house_says.billLabel (now (section .entry)))) (now (out .entry)))) × (now (out .exit) ≡ givenInto (labelNumbers (length (now (house .entry))) (house_says.billLabel (now (section .entry)))) (now (out .entry))) ⌝ }
+{
+    let answer = house::label(section);
+    number(flat::label(answer, house.len(), out))
 }
 
 // The whole milliseconds in t ticks of the 90 kHz clock.

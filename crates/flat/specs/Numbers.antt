@@ -34,6 +34,10 @@ use Rattle.descriptor_reading.specs.declared.answers.DtmfChar.{DtmfChar}
 use Rattle.descriptor_reading.specs.declared.answers.SegmentationComponent.{SegmentationComponent}
 use Rattle.descriptor_reading.specs.declared.answers.AudioComponent.{AudioComponent}
 use Rattle.descriptor_reading.specs.declared.answers.Upid.{Upid}
+use Rattle.house.specs.declared.answers.Break.{Break}
+use Rattle.house.specs.declared.answers.EffectiveTime.{EffectiveTime}
+use Rattle.house.specs.declared.answers.Dvb.{Dvb}
+use Rattle.house.specs.declared.answers.Label.{Label}
 
 -- ---- an answer in lent memory
 
@@ -187,3 +191,27 @@ audioComponentNumbers (AudioComponent.Refused r) = refused (numberOf r)
 abbrev pub upidNumbers : Upid → Numbers
 upidNumbers (Upid.Part at n) = these (at ∷ n ∷ [])
 upidNumbers (Upid.Refused r) = refused (numberOf r)
+
+-- ---- the house's answers
+
+abbrev pub breakAnswerNumbers : Break → Numbers
+breakAnswerNumbers Break.None = these (0 ∷ [])
+breakAnswerNumbers (Break.Measured t) = these (1 ∷ t .0 ∷ [])
+breakAnswerNumbers Break.Unmeasured = these (2 ∷ [])
+breakAnswerNumbers Break.Unread = these (3 ∷ [])
+breakAnswerNumbers (Break.Refused r) = refused (numberOf r)
+
+abbrev pub effectiveTimeNumbers : EffectiveTime → Numbers
+effectiveTimeNumbers EffectiveTime.None = these (0 ∷ [])
+effectiveTimeNumbers (EffectiveTime.At t) = these (1 ∷ t .0 ∷ [])
+effectiveTimeNumbers (EffectiveTime.Refused r) = refused (numberOf r)
+
+abbrev pub dvbNumbers : Dvb → Numbers
+dvbNumbers Dvb.No = these (0 ∷ [])
+dvbNumbers Dvb.Yes = these (1 ∷ [])
+dvbNumbers (Dvb.Refused r) = refused (numberOf r)
+
+-- where it lies, in the section or in the house's name of so many bytes, and how long it is
+abbrev pub labelNumbers : ℕ → Label → Numbers
+labelNumbers house (Label.Upid at n) = these (0 ∷ at ∷ n ∷ [])
+labelNumbers house Label.House = these (1 ∷ 0 ∷ house ∷ [])

@@ -3,7 +3,7 @@
 mod lists;
 
 ghost use mathlib.Core.Path.{_≡_};
-ghost use Rattle.flat.specs.Numbers.{these, given, givenInto, commandNumbers, insertComponentNumbers, eventNumbers, eventComponentNumbers, privateByteNumbers, knownCountNumbers, descriptorNumbers, dtmfCharNumbers, segmentationComponentNumbers, audioComponentNumbers, upidNumbers, insertNumbers, scheduledNumbers, segmentationNumbers, timeNumbers};
+ghost use Rattle.flat.specs.Numbers.{these, given, givenInto, commandNumbers, insertComponentNumbers, eventNumbers, eventComponentNumbers, privateByteNumbers, knownCountNumbers, descriptorNumbers, dtmfCharNumbers, segmentationComponentNumbers, audioComponentNumbers, upidNumbers, insertNumbers, scheduledNumbers, segmentationNumbers, timeNumbers, breakAnswerNumbers, effectiveTimeNumbers, dvbNumbers, labelNumbers};
 ghost use mathlib.Core.List.{[], _∷_};
 use command_reading::Command;
 use command_reading::Event;
@@ -20,6 +20,10 @@ use descriptor_reading::KnownCount;
 use descriptor_reading::Segmentation;
 use descriptor_reading::SegmentationComponent;
 use descriptor_reading::Upid;
+use house::Break;
+use house::Dvb;
+use house::EffectiveTime;
+use house::Label;
 use units::Refusal;
 use units::Written;
 
@@ -208,6 +212,51 @@ pub fn upid(answer: Upid, out: &mut [u64]) -> Written
     match answer {
         Upid::Part(at, length) => give_two(at as u64, length as u64, out),
         Upid::Refused(refusal) => Written::Refused(refusal),
+    }
+}
+
+// Whether a cue opens a break, and how long it lasts.
+pub fn break_answer(answer: Break, out: &mut [u64]) -> Written
+    ensures { λ r. ⌜ (r ≡ given (breakAnswerNumbers answer) (now (out .entry))) × (now (out .exit) ≡ givenInto (breakAnswerNumbers answer) (now (out .entry))) ⌝ }
+{
+    match answer {
+        Break::None => give(&[0], out),
+        Break::Measured(ticks) => give(&[1, ticks.0], out),
+        Break::Unmeasured => give(&[2], out),
+        Break::Unread => give(&[3], out),
+        Break::Refused(refusal) => Written::Refused(refusal),
+    }
+}
+
+// When a splice takes place on the stream's own clock.
+pub fn effective_time(answer: EffectiveTime, out: &mut [u64]) -> Written
+    ensures { λ r. ⌜ (r ≡ given (effectiveTimeNumbers answer) (now (out .entry))) × (now (out .exit) ≡ givenInto (effectiveTimeNumbers answer) (now (out .entry))) ⌝ }
+{
+    match answer {
+        EffectiveTime::None => give(&[0], out),
+        EffectiveTime::At(ticks) => give(&[1, ticks.0], out),
+        EffectiveTime::Refused(refusal) => Written::Refused(refusal),
+    }
+}
+
+// The first DVB-DASH check.
+pub fn dvb(answer: Dvb, out: &mut [u64]) -> Written
+    ensures { λ r. ⌜ (r ≡ given (dvbNumbers answer) (now (out .entry))) × (now (out .exit) ≡ givenInto (dvbNumbers answer) (now (out .entry))) ⌝ }
+{
+    match answer {
+        Dvb::No => give(&[0], out),
+        Dvb::Yes => give(&[1], out),
+        Dvb::Refused(refusal) => Written::Refused(refusal),
+    }
+}
+
+// In which slice the bill label lies, the section or the house's name of so many bytes, where in it, and how long it is.
+pub fn label(answer: Label, house: usize, out: &mut [u64]) -> Written
+    ensures { λ r. ⌜ (r ≡ given (labelNumbers house answer) (now (out .entry))) × (now (out .exit) ≡ givenInto (labelNumbers house answer) (now (out .entry))) ⌝ }
+{
+    match answer {
+        Label::Upid(at, length) => give(&[0, at as u64, length as u64], out),
+        Label::House => give(&[1, 0, house as u64], out),
     }
 }
 
