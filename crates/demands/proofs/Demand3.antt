@@ -1,6 +1,6 @@
 -- Demand 3: two accepted sections that are not sealed, whose sheets are equal once reserved fields are set to 0, and
--- descriptor_loop_length, unknown descriptors and stuffing are taken out, give the same answers. And what is never read opens no break
--- and closes none: the break of a sealed section, or of a command of another type than the standard's, is unread.
+-- descriptor_loop_length, unknown descriptors and stuffing are taken out, give the same answers. And the break is unread where the
+-- section is sealed, or where its command is of a type that the standard does not have.
 -- Assumes nothing.
 use mathlib.Core.Path.{_≡_, sym, ap, _∙_}
 use mathlib.Core.Bool.{true, false, cond}

@@ -134,7 +134,7 @@ billed-blank : (t : Trace) (other : List ℕ)
     ≡ cond (hasUpid t && ltb 0 (look t "segmentation_upid_length")) (allOf t "segmentation_upid") other
 billed-blank t other = simp (look-blank, all-blank)
 
--- a label that is a UPID's, or another's
+-- the label is the bytes of this UPID, where it has some, or else another's
 one-label : (s house : List ℕ) (c : Cursor) (other : Label) → AllStand s (c ∷ []) → AreBytes s
     → labelOf s house (labelled (upidOf (c .at) (traceAt s c)) other)
     ≡ cond (hasUpid (traceAt s c) && ltb 0 (look (traceAt s c) "segmentation_upid_length")) (allOf (traceAt s c) "segmentation_upid") (labelOf s house other)

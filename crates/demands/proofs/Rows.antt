@@ -53,6 +53,7 @@ module _ (n : Name) (none : every (other n) sized-command ≡ true) (s : List �
       → Each (other n) (values header (bit s) 0 ++ typedRows s t)
   headed-each h l = each-append (other n) (values header (bit s) 0) (typedRows s t) (each-values (other n) header (bit s) 0 h) (typed-each l)
 
+-- these four
 no-such-row : (every (other "descriptor_loop_length") sized-command ≡ true)
     × (every (other "section_length") sized-command ≡ true)
     × (every (other "alignment_stuffing") sized-command ≡ true)
@@ -93,7 +94,7 @@ module _ (s : List ℕ) (c : Cursor) (j : ℕ) (t : Trace) (l : Laid s c j t) wh
       (without-none "section_length" (typedRows s (l .command)) (typed-each "section_length" (no-such-row .1) s (8 * l .stop) (l .command) (l .commanded) refl)))
       ∙ blank-append (first s) (last s (typedRows s (l .command)))
 
-  -- the rows up to the first descriptor have neither of these names
+  -- no row up to the first descriptor has such a name
   front-each : (n : Name) → every (other n) sized-command ≡ true → all (other n) header ≡ true
       → all (other n) (field 8 "splice_command_type" ∷ []) ≡ true → all (other n) (field 16 "descriptor_loop_length" ∷ []) ≡ true
       → Each (other n) (headed ++ loop-length)
