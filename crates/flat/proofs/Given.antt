@@ -12,7 +12,7 @@ use Rattle.units.specs.declared.refusals.Refusal.{Refusal}
 use Rattle.units.specs.declared.refusals.Refusal.the-variants.{Room}
 use Rattle.units.specs.declared.refusals.Written.{Written}
 use Rattle.units.specs.declared.refusals.Written.the-variants.{Count, Refused}
-use Rattle.units.specs.Refusals.{numberOf, named, orElse}
+use Rattle.units.specs.Refusals.{numberOf, named}
 use Rattle.units.specs.Answers.{answer, memory}
 use Rattle.units.proofs.Numbers.{named-back}
 use Rattle.flat.specs.Numbers.{Numbers, refused, these, givenRow, given, givenInto}

@@ -4,7 +4,7 @@ mod lists;
 
 ghost use mathlib.Core.Path.{_≡_};
 ghost use Rattle.flat.specs.Numbers.{these, given, givenInto, commandNumbers, insertComponentNumbers, eventNumbers, eventComponentNumbers, privateByteNumbers, knownCountNumbers, descriptorNumbers, dtmfCharNumbers, segmentationComponentNumbers, audioComponentNumbers, upidNumbers, breakAnswerNumbers, effectiveTimeNumbers, dvbNumbers, labelNumbers, insertNumbers, scheduledNumbers, segmentationNumbers, timeNumbers};
-ghost use mathlib.Core.List.{_∷_};
+ghost use mathlib.Core.List.{[], _∷_};
 use command_reading::Command;
 use command_reading::Event;
 use command_reading::EventComponent;
@@ -32,14 +32,14 @@ pub fn command(answer: Command, out: &mut [u64]) -> Written
     ensures { λ r. ⌜ (r ≡ given (commandNumbers answer) (now (out .entry))) × (now (out .exit) ≡ givenInto (commandNumbers answer) (now (out .entry))) ⌝ }
 {
     match answer {
-        Command::Null => give(&[0], out),
-        Command::Schedule(splice_count) => give(&[1, splice_count as u64], out),
+        Command::Null => give_one(0, out),
+        Command::Schedule(splice_count) => give_two(1, splice_count as u64, out),
         Command::Insert(insert) => give_insert(insert, out),
-        Command::CancelledInsert(id) => give(&[3, id.0 as u64], out),
+        Command::CancelledInsert(id) => give_two(3, id.0 as u64, out),
         Command::TimeSignal(time) => give_timed(4, time, out),
-        Command::BandwidthReservation => give(&[5], out),
-        Command::Private(identifier, count) => give(&[6, identifier as u64, count as u64], out),
-        Command::Unread => give(&[7], out),
+        Command::BandwidthReservation => give_one(5, out),
+        Command::Private(identifier, count) => give_three(6, identifier as u64, count as u64, out),
+        Command::Unread => give_one(7, out),
         Command::Refused(refusal) => Written::Refused(refusal),
     }
 }
@@ -81,7 +81,7 @@ pub fn schedule_event(answer: Event, out: &mut [u64]) -> Written
 {
     match answer {
         Event::Scheduled(event) => give_scheduled(event, out),
-        Event::Cancelled(id) => give(&[1, id.0 as u64], out),
+        Event::Cancelled(id) => give_two(1, id.0 as u64, out),
         Event::Refused(refusal) => Written::Refused(refusal),
     }
 }
@@ -102,7 +102,7 @@ pub fn event_component(answer: EventComponent, out: &mut [u64]) -> Written
         EventComponent::Component {
             component_tag,
             utc_splice_time,
-        } => give(&[component_tag as u64, utc_splice_time as u64], out),
+        } => give_two(component_tag as u64, utc_splice_time as u64, out),
         EventComponent::Refused(refusal) => Written::Refused(refusal),
     }
 }
@@ -112,7 +112,7 @@ pub fn private_byte(answer: PrivateByte, out: &mut [u64]) -> Written
     ensures { λ r. ⌜ (r ≡ given (privateByteNumbers answer) (now (out .entry))) × (now (out .exit) ≡ givenInto (privateByteNumbers answer) (now (out .entry))) ⌝ }
 {
     match answer {
-        PrivateByte::Byte(byte) => give(&[byte as u64], out),
+        PrivateByte::Byte(byte) => give_one(byte as u64, out),
         PrivateByte::Refused(refusal) => Written::Refused(refusal),
     }
 }
@@ -122,7 +122,7 @@ pub fn known_count(answer: KnownCount, out: &mut [u64]) -> Written
     ensures { λ r. ⌜ (r ≡ given (knownCountNumbers answer) (now (out .entry))) × (now (out .exit) ≡ givenInto (knownCountNumbers answer) (now (out .entry))) ⌝ }
 {
     match answer {
-        KnownCount::Count(count) => give(&[count as u64], out),
+        KnownCount::Count(count) => give_one(count as u64, out),
         KnownCount::Refused(refusal) => Written::Refused(refusal),
     }
 }
@@ -132,19 +132,19 @@ pub fn known_descriptor(answer: Descriptor, out: &mut [u64]) -> Written
     ensures { λ r. ⌜ (r ≡ given (descriptorNumbers answer) (now (out .entry))) × (now (out .exit) ≡ givenInto (descriptorNumbers answer) (now (out .entry))) ⌝ }
 {
     match answer {
-        Descriptor::Avail(provider_avail_id) => give(&[0, provider_avail_id as u64], out),
+        Descriptor::Avail(provider_avail_id) => give_two(0, provider_avail_id as u64, out),
         Descriptor::Dtmf {
             preroll,
             dtmf_count,
-        } => give(&[1, preroll as u64, dtmf_count as u64], out),
+        } => give_three(1, preroll as u64, dtmf_count as u64, out),
         Descriptor::Segmentation(segmentation) => give_segmentation(segmentation, out),
-        Descriptor::CancelledSegmentation(id) => give(&[3, id.0 as u64], out),
+        Descriptor::CancelledSegmentation(id) => give_two(3, id.0 as u64, out),
         Descriptor::Time {
             tai_seconds,
             tai_ns,
             utc_offset,
         } => give(&[4, tai_seconds, tai_ns as u64, utc_offset as u64], out),
-        Descriptor::Audio(audio_count) => give(&[5, audio_count as u64], out),
+        Descriptor::Audio(audio_count) => give_two(5, audio_count as u64, out),
         Descriptor::Refused(refusal) => Written::Refused(refusal),
     }
 }
@@ -162,7 +162,7 @@ pub fn dtmf_char(answer: DtmfChar, out: &mut [u64]) -> Written
     ensures { λ r. ⌜ (r ≡ given (dtmfCharNumbers answer) (now (out .entry))) × (now (out .exit) ≡ givenInto (dtmfCharNumbers answer) (now (out .entry))) ⌝ }
 {
     match answer {
-        DtmfChar::Char(byte) => give(&[byte as u64], out),
+        DtmfChar::Char(byte) => give_one(byte as u64, out),
         DtmfChar::Refused(refusal) => Written::Refused(refusal),
     }
 }
@@ -175,7 +175,7 @@ pub fn segmentation_component(answer: SegmentationComponent, out: &mut [u64]) ->
         SegmentationComponent::Component {
             component_tag,
             pts_offset,
-        } => give(&[component_tag as u64, pts_offset.0], out),
+        } => give_two(component_tag as u64, pts_offset.0, out),
         SegmentationComponent::Refused(refusal) => Written::Refused(refusal),
     }
 }
@@ -210,7 +210,7 @@ pub fn upid(answer: Upid, out: &mut [u64]) -> Written
     ensures { λ r. ⌜ (r ≡ given (upidNumbers answer) (now (out .entry))) × (now (out .exit) ≡ givenInto (upidNumbers answer) (now (out .entry))) ⌝ }
 {
     match answer {
-        Upid::Part(at, length) => give(&[at as u64, length as u64], out),
+        Upid::Part(at, length) => give_two(at as u64, length as u64, out),
         Upid::Refused(refusal) => Written::Refused(refusal),
     }
 }
@@ -220,10 +220,10 @@ pub fn break_answer(answer: Break, out: &mut [u64]) -> Written
     ensures { λ r. ⌜ (r ≡ given (breakAnswerNumbers answer) (now (out .entry))) × (now (out .exit) ≡ givenInto (breakAnswerNumbers answer) (now (out .entry))) ⌝ }
 {
     match answer {
-        Break::None => give(&[0], out),
-        Break::Measured(ticks) => give(&[1, ticks.0], out),
-        Break::Unmeasured => give(&[2], out),
-        Break::Unread => give(&[3], out),
+        Break::None => give_one(0, out),
+        Break::Measured(ticks) => give_two(1, ticks.0, out),
+        Break::Unmeasured => give_one(2, out),
+        Break::Unread => give_one(3, out),
         Break::Refused(refusal) => Written::Refused(refusal),
     }
 }
@@ -233,8 +233,8 @@ pub fn effective_time(answer: EffectiveTime, out: &mut [u64]) -> Written
     ensures { λ r. ⌜ (r ≡ given (effectiveTimeNumbers answer) (now (out .entry))) × (now (out .exit) ≡ givenInto (effectiveTimeNumbers answer) (now (out .entry))) ⌝ }
 {
     match answer {
-        EffectiveTime::None => give(&[0], out),
-        EffectiveTime::At(ticks) => give(&[1, ticks.0], out),
+        EffectiveTime::None => give_one(0, out),
+        EffectiveTime::At(ticks) => give_two(1, ticks.0, out),
         EffectiveTime::Refused(refusal) => Written::Refused(refusal),
     }
 }
@@ -244,8 +244,8 @@ pub fn dvb(answer: Dvb, out: &mut [u64]) -> Written
     ensures { λ r. ⌜ (r ≡ given (dvbNumbers answer) (now (out .entry))) × (now (out .exit) ≡ givenInto (dvbNumbers answer) (now (out .entry))) ⌝ }
 {
     match answer {
-        Dvb::No => give(&[0], out),
-        Dvb::Yes => give(&[1], out),
+        Dvb::No => give_one(0, out),
+        Dvb::Yes => give_one(1, out),
         Dvb::Refused(refusal) => Written::Refused(refusal),
     }
 }
@@ -255,9 +255,28 @@ pub fn label(answer: Label, house: usize, out: &mut [u64]) -> Written
     ensures { λ r. ⌜ (r ≡ given (labelNumbers house answer) (now (out .entry))) × (now (out .exit) ≡ givenInto (labelNumbers house answer) (now (out .entry))) ⌝ }
 {
     match answer {
-        Label::Upid(at, length) => give(&[0, at as u64, length as u64], out),
-        Label::House => give(&[1, 0, house as u64], out),
+        Label::Upid(at, length) => give_three(0, at as u64, length as u64, out),
+        Label::House => give_three(1, 0, house as u64, out),
     }
+}
+
+// One number, two, and three.
+fn give_one(a: u64, out: &mut [u64]) -> Written
+    ensures { λ r. ⌜ (r ≡ given (these (a ∷ [])) (now (out .entry))) × (now (out .exit) ≡ givenInto (these (a ∷ [])) (now (out .entry))) ⌝ }
+{
+    give(&[a], out)
+}
+
+fn give_two(a: u64, b: u64, out: &mut [u64]) -> Written
+    ensures { λ r. ⌜ (r ≡ given (these (a ∷ b ∷ [])) (now (out .entry))) × (now (out .exit) ≡ givenInto (these (a ∷ b ∷ [])) (now (out .entry))) ⌝ }
+{
+    give(&[a, b], out)
+}
+
+fn give_three(a: u64, b: u64, c: u64, out: &mut [u64]) -> Written
+    ensures { λ r. ⌜ (r ≡ given (these (a ∷ b ∷ c ∷ [])) (now (out .entry))) × (now (out .exit) ≡ givenInto (these (a ∷ b ∷ c ∷ [])) (now (out .entry))) ⌝ }
+{
+    give(&[a, b, c], out)
 }
 
 // The numbers, written to the front of out, if it has room for them.

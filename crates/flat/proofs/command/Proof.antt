@@ -10,77 +10,59 @@ use Rattle.flat.proofs.command.Tie as tie
 enum-told : tie.Need-enum-told
 enum-told c = search needs
 
-slice-aggregate-give : tie.Need-slice-aggregate-give
-slice-aggregate-give c = search needs
-
-give-requires : tie.Need-give-requires
-give-requires c κs = tt
+give-one-requires : tie.Need-give-one-requires
+give-one-requires c κs = tt
 
 enum-known-answer : tie.Need-enum-known-answer
 enum-known-answer c = search needs
 
-cast-t19 : tie.Need-cast-t19
-cast-t19 c = search needs
+cast-give-two : tie.Need-cast-give-two
+cast-give-two c = search needs
 
-slice-aggregate-give-2 : tie.Need-slice-aggregate-give-2
-slice-aggregate-give-2 c = search needs
-
-give-requires-2 : tie.Need-give-requires-2
-give-requires-2 c κs = tt
+give-two-requires : tie.Need-give-two-requires
+give-two-requires c κs = tt
 
 enum-known-answer-2 : tie.Need-enum-known-answer-2
 enum-known-answer-2 c = search needs
 
 give-insert-requires : tie.Need-give-insert-requires
-give-insert-requires c κs = search needs
+give-insert-requires c κs = tt
 
 enum-known-answer-3 : tie.Need-enum-known-answer-3
 enum-known-answer-3 c = search needs
 
-cast-t27 : tie.Need-cast-t27
-cast-t27 c = search needs
+cast-give-two-2 : tie.Need-cast-give-two-2
+cast-give-two-2 c = search needs
 
-slice-aggregate-give-3 : tie.Need-slice-aggregate-give-3
-slice-aggregate-give-3 c = search needs
-
-give-requires-3 : tie.Need-give-requires-3
-give-requires-3 c κs = tt
+give-two-requires-2 : tie.Need-give-two-requires-2
+give-two-requires-2 c κs = tt
 
 enum-known-answer-4 : tie.Need-enum-known-answer-4
 enum-known-answer-4 c = search needs
 
 give-timed-requires : tie.Need-give-timed-requires
-give-timed-requires c κs = search needs
+give-timed-requires c κs = tt
 
 enum-told-2 : tie.Need-enum-told-2
 enum-told-2 c = search needs
 
-slice-aggregate-give-4 : tie.Need-slice-aggregate-give-4
-slice-aggregate-give-4 c = search needs
-
-give-requires-4 : tie.Need-give-requires-4
-give-requires-4 c κs = tt
+give-one-requires-2 : tie.Need-give-one-requires-2
+give-one-requires-2 c κs = tt
 
 enum-known-answer-5 : tie.Need-enum-known-answer-5
 enum-known-answer-5 c = search needs
 
-cast-t39 : tie.Need-cast-t39
-cast-t39 c = search needs
+cast-give-three : tie.Need-cast-give-three
+cast-give-three c = search needs
 
-slice-aggregate-give-5 : tie.Need-slice-aggregate-give-5
-slice-aggregate-give-5 c = search needs
-
-give-requires-5 : tie.Need-give-requires-5
-give-requires-5 c κs = tt
+give-three-requires : tie.Need-give-three-requires
+give-three-requires c κs = tt
 
 enum-told-3 : tie.Need-enum-told-3
 enum-told-3 c = search needs
 
-slice-aggregate-give-6 : tie.Need-slice-aggregate-give-6
-slice-aggregate-give-6 c = search needs
-
-give-requires-6 : tie.Need-give-requires-6
-give-requires-6 c κs = tt
+give-one-requires-3 : tie.Need-give-one-requires-3
+give-one-requires-3 c κs = tt
 
 enum-known-answer-6 : tie.Need-enum-known-answer-6
 enum-known-answer-6 c = search needs
@@ -89,13 +71,13 @@ same-length : tie.Need-same-length
 same-length c = search needs
 
 returns : tie.Need-returns
-returns c = given-as _ (ap commandNumbers (sym (c .before .before .before .before .before .enum-told .given .1))) (c .before .before .give .ensures)
+returns c = given-as _ (ap commandNumbers (sym (c .before .before .before .before .enum-told .given .1))) (c .before .before .give-one .ensures)
 
 same-length-2 : tie.Need-same-length-2
 same-length-2 c = search needs
 
 returns-2 : tie.Need-returns-2
-returns-2 c = given-as _ (ap commandNumbers (sym (c .before .before .before .before .before .before .answer .given .1))) (c .before .before .give2 .ensures)
+returns-2 c = given-as _ (ap commandNumbers (sym (c .before .before .before .before .before .answer .given .1))) (c .before .before .give-two .ensures)
 
 same-length-3 : tie.Need-same-length-3
 same-length-3 c = search needs
@@ -107,7 +89,7 @@ same-length-4 : tie.Need-same-length-4
 same-length-4 c = search needs
 
 returns-4 : tie.Need-returns-4
-returns-4 c = given-as _ (ap commandNumbers (sym (c .before .before .before .before .before .before .before .answer3 .given .1))) (c .before .before .give3 .ensures)
+returns-4 c = given-as _ (ap commandNumbers (sym (c .before .before .before .before .before .before .answer3 .given .1))) (c .before .before .give-two2 .ensures)
 
 same-length-5 : tie.Need-same-length-5
 same-length-5 c = search needs
@@ -119,19 +101,19 @@ same-length-6 : tie.Need-same-length-6
 same-length-6 c = search needs
 
 returns-6 : tie.Need-returns-6
-returns-6 c = given-as _ (ap commandNumbers (sym (c .before .before .before .before .before .enum-told2 .given .1))) (c .before .before .give4 .ensures)
+returns-6 c = given-as _ (ap commandNumbers (sym (c .before .before .before .before .enum-told2 .given .1))) (c .before .before .give-one2 .ensures)
 
 same-length-7 : tie.Need-same-length-7
 same-length-7 c = search needs
 
 returns-7 : tie.Need-returns-7
-returns-7 c = given-as _ (ap commandNumbers (sym (c .before .before .before .before .before .before .answer5 .given .1))) (c .before .before .give5 .ensures)
+returns-7 c = given-as _ (ap commandNumbers (sym (c .before .before .before .before .before .answer5 .given .1))) (c .before .before .give-three .ensures)
 
 same-length-8 : tie.Need-same-length-8
 same-length-8 c = search needs
 
 returns-8 : tie.Need-returns-8
-returns-8 c = given-as _ (ap commandNumbers (sym (c .before .before .before .before .before .enum-told3 .given .1))) (c .before .before .give6 .ensures)
+returns-8 c = given-as _ (ap commandNumbers (sym (c .before .before .before .before .enum-told3 .given .1))) (c .before .before .give-one3 .ensures)
 
 returns-9 : tie.Need-returns-9
 returns-9 c = given-as _ (ap commandNumbers (sym (c .before .answer6 .given .1))) (not-given _ _)
@@ -141,30 +123,24 @@ command-spec =
     tie.close
     (tie.spec
     enum-told
-    slice-aggregate-give
-    give-requires
+    give-one-requires
     enum-known-answer
-    cast-t19
-    slice-aggregate-give-2
-    give-requires-2
+    cast-give-two
+    give-two-requires
     enum-known-answer-2
     give-insert-requires
     enum-known-answer-3
-    cast-t27
-    slice-aggregate-give-3
-    give-requires-3
+    cast-give-two-2
+    give-two-requires-2
     enum-known-answer-4
     give-timed-requires
     enum-told-2
-    slice-aggregate-give-4
-    give-requires-4
+    give-one-requires-2
     enum-known-answer-5
-    cast-t39
-    slice-aggregate-give-5
-    give-requires-5
+    cast-give-three
+    give-three-requires
     enum-told-3
-    slice-aggregate-give-6
-    give-requires-6
+    give-one-requires-3
     enum-known-answer-6
     same-length
     returns

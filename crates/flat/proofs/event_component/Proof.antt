@@ -10,17 +10,14 @@ use Rattle.flat.proofs.event_component.Tie as tie
 enum-known-answer : tie.Need-enum-known-answer
 enum-known-answer c = search needs
 
-cast-t8 : tie.Need-cast-t8
-cast-t8 c = search needs
+cast-give-two : tie.Need-cast-give-two
+cast-give-two c = search needs
 
-cast-t9 : tie.Need-cast-t9
-cast-t9 c = search needs
+cast-give-two-2 : tie.Need-cast-give-two-2
+cast-give-two-2 c = search needs
 
-slice-aggregate-give : tie.Need-slice-aggregate-give
-slice-aggregate-give c = search needs
-
-give-requires : tie.Need-give-requires
-give-requires c κs = tt
+give-two-requires : tie.Need-give-two-requires
+give-two-requires c κs = tt
 
 enum-known-answer-2 : tie.Need-enum-known-answer-2
 enum-known-answer-2 c = search needs
@@ -29,7 +26,7 @@ same-length : tie.Need-same-length
 same-length c = search needs
 
 returns : tie.Need-returns
-returns c = given-as _ (ap eventComponentNumbers (sym (c .before .before .before .before .before .before .answer .given .1))) (c .before .before .give .ensures)
+returns c = given-as _ (ap eventComponentNumbers (sym (c .before .before .before .before .before .answer .given .1))) (c .before .before .give-two .ensures)
 
 returns-2 : tie.Need-returns-2
 returns-2 c = given-as _ (ap eventComponentNumbers (sym (c .before .answer2 .given .1))) (not-given _ _)
@@ -39,10 +36,9 @@ event-component-spec =
     tie.close
     (tie.spec
     enum-known-answer
-    cast-t8
-    cast-t9
-    slice-aggregate-give
-    give-requires
+    cast-give-two
+    cast-give-two-2
+    give-two-requires
     enum-known-answer-2
     same-length
     returns

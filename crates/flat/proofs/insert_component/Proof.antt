@@ -14,7 +14,7 @@ cast-give-timed : tie.Need-cast-give-timed
 cast-give-timed c = search needs
 
 give-timed-requires : tie.Need-give-timed-requires
-give-timed-requires c κs = search needs
+give-timed-requires c κs = tt
 
 enum-known-answer-2 : tie.Need-enum-known-answer-2
 enum-known-answer-2 c = search needs

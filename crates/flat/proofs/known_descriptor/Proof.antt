@@ -10,8 +10,47 @@ use Rattle.flat.proofs.known_descriptor.Tie as tie
 enum-known-answer : tie.Need-enum-known-answer
 enum-known-answer c = search needs
 
-cast-t15 : tie.Need-cast-t15
-cast-t15 c = search needs
+cast-give-two : tie.Need-cast-give-two
+cast-give-two c = search needs
+
+give-two-requires : tie.Need-give-two-requires
+give-two-requires c κs = tt
+
+enum-known-answer-2 : tie.Need-enum-known-answer-2
+enum-known-answer-2 c = search needs
+
+cast-give-three : tie.Need-cast-give-three
+cast-give-three c = search needs
+
+cast-give-three-2 : tie.Need-cast-give-three-2
+cast-give-three-2 c = search needs
+
+give-three-requires : tie.Need-give-three-requires
+give-three-requires c κs = tt
+
+enum-known-answer-3 : tie.Need-enum-known-answer-3
+enum-known-answer-3 c = search needs
+
+give-segmentation-requires : tie.Need-give-segmentation-requires
+give-segmentation-requires c κs = tt
+
+enum-known-answer-4 : tie.Need-enum-known-answer-4
+enum-known-answer-4 c = search needs
+
+cast-give-two-2 : tie.Need-cast-give-two-2
+cast-give-two-2 c = search needs
+
+give-two-requires-2 : tie.Need-give-two-requires-2
+give-two-requires-2 c κs = tt
+
+enum-known-answer-5 : tie.Need-enum-known-answer-5
+enum-known-answer-5 c = search needs
+
+cast-t27 : tie.Need-cast-t27
+cast-t27 c = search needs
+
+cast-t28 : tie.Need-cast-t28
+cast-t28 c = search needs
 
 slice-aggregate-give : tie.Need-slice-aggregate-give
 slice-aggregate-give c = search needs
@@ -19,65 +58,14 @@ slice-aggregate-give c = search needs
 give-requires : tie.Need-give-requires
 give-requires c κs = tt
 
-enum-known-answer-2 : tie.Need-enum-known-answer-2
-enum-known-answer-2 c = search needs
-
-cast-t21 : tie.Need-cast-t21
-cast-t21 c = search needs
-
-cast-t22 : tie.Need-cast-t22
-cast-t22 c = search needs
-
-slice-aggregate-give-2 : tie.Need-slice-aggregate-give-2
-slice-aggregate-give-2 c = search needs
-
-give-requires-2 : tie.Need-give-requires-2
-give-requires-2 c κs = tt
-
-enum-known-answer-3 : tie.Need-enum-known-answer-3
-enum-known-answer-3 c = search needs
-
-give-segmentation-requires : tie.Need-give-segmentation-requires
-give-segmentation-requires c κs = search needs
-
-enum-known-answer-4 : tie.Need-enum-known-answer-4
-enum-known-answer-4 c = search needs
-
-cast-t30 : tie.Need-cast-t30
-cast-t30 c = search needs
-
-slice-aggregate-give-3 : tie.Need-slice-aggregate-give-3
-slice-aggregate-give-3 c = search needs
-
-give-requires-3 : tie.Need-give-requires-3
-give-requires-3 c κs = tt
-
-enum-known-answer-5 : tie.Need-enum-known-answer-5
-enum-known-answer-5 c = search needs
-
-cast-t36 : tie.Need-cast-t36
-cast-t36 c = search needs
-
-cast-t37 : tie.Need-cast-t37
-cast-t37 c = search needs
-
-slice-aggregate-give-4 : tie.Need-slice-aggregate-give-4
-slice-aggregate-give-4 c = search needs
-
-give-requires-4 : tie.Need-give-requires-4
-give-requires-4 c κs = tt
-
 enum-known-answer-6 : tie.Need-enum-known-answer-6
 enum-known-answer-6 c = search needs
 
-cast-t43 : tie.Need-cast-t43
-cast-t43 c = search needs
+cast-give-two-3 : tie.Need-cast-give-two-3
+cast-give-two-3 c = search needs
 
-slice-aggregate-give-5 : tie.Need-slice-aggregate-give-5
-slice-aggregate-give-5 c = search needs
-
-give-requires-5 : tie.Need-give-requires-5
-give-requires-5 c κs = tt
+give-two-requires-3 : tie.Need-give-two-requires-3
+give-two-requires-3 c κs = tt
 
 enum-known-answer-7 : tie.Need-enum-known-answer-7
 enum-known-answer-7 c = search needs
@@ -86,13 +74,13 @@ same-length : tie.Need-same-length
 same-length c = search needs
 
 returns : tie.Need-returns
-returns c = given-as _ (ap descriptorNumbers (sym (c .before .before .before .before .before .before .answer .given .1))) (c .before .before .give .ensures)
+returns c = given-as _ (ap descriptorNumbers (sym (c .before .before .before .before .before .answer .given .1))) (c .before .before .give-two .ensures)
 
 same-length-2 : tie.Need-same-length-2
 same-length-2 c = search needs
 
 returns-2 : tie.Need-returns-2
-returns-2 c = given-as _ (ap descriptorNumbers (sym (c .before .before .before .before .before .before .answer2 .given .1))) (c .before .before .give2 .ensures)
+returns-2 c = given-as _ (ap descriptorNumbers (sym (c .before .before .before .before .before .answer2 .given .1))) (c .before .before .give-three .ensures)
 
 same-length-3 : tie.Need-same-length-3
 same-length-3 c = search needs
@@ -104,19 +92,19 @@ same-length-4 : tie.Need-same-length-4
 same-length-4 c = search needs
 
 returns-4 : tie.Need-returns-4
-returns-4 c = given-as _ (ap descriptorNumbers (sym (c .before .before .before .before .before .before .before .answer4 .given .1))) (c .before .before .give3 .ensures)
+returns-4 c = given-as _ (ap descriptorNumbers (sym (c .before .before .before .before .before .before .answer4 .given .1))) (c .before .before .give-two2 .ensures)
 
 same-length-5 : tie.Need-same-length-5
 same-length-5 c = search needs
 
 returns-5 : tie.Need-returns-5
-returns-5 c = given-as _ (ap descriptorNumbers (sym (c .before .before .before .before .before .before .answer5 .given .1))) (c .before .before .give4 .ensures)
+returns-5 c = given-as _ (ap descriptorNumbers (sym (c .before .before .before .before .before .before .answer5 .given .1))) (c .before .before .give .ensures)
 
 same-length-6 : tie.Need-same-length-6
 same-length-6 c = search needs
 
 returns-6 : tie.Need-returns-6
-returns-6 c = given-as _ (ap descriptorNumbers (sym (c .before .before .before .before .before .before .answer6 .given .1))) (c .before .before .give5 .ensures)
+returns-6 c = given-as _ (ap descriptorNumbers (sym (c .before .before .before .before .before .answer6 .given .1))) (c .before .before .give-two3 .ensures)
 
 returns-7 : tie.Need-returns-7
 returns-7 c = given-as _ (ap descriptorNumbers (sym (c .before .answer7 .given .1))) (not-given _ _)
@@ -126,29 +114,25 @@ known-descriptor-spec =
     tie.close
     (tie.spec
     enum-known-answer
-    cast-t15
-    slice-aggregate-give
-    give-requires
+    cast-give-two
+    give-two-requires
     enum-known-answer-2
-    cast-t21
-    cast-t22
-    slice-aggregate-give-2
-    give-requires-2
+    cast-give-three
+    cast-give-three-2
+    give-three-requires
     enum-known-answer-3
     give-segmentation-requires
     enum-known-answer-4
-    cast-t30
-    slice-aggregate-give-3
-    give-requires-3
+    cast-give-two-2
+    give-two-requires-2
     enum-known-answer-5
-    cast-t36
-    cast-t37
-    slice-aggregate-give-4
-    give-requires-4
+    cast-t27
+    cast-t28
+    slice-aggregate-give
+    give-requires
     enum-known-answer-6
-    cast-t43
-    slice-aggregate-give-5
-    give-requires-5
+    cast-give-two-3
+    give-two-requires-3
     enum-known-answer-7
     same-length
     returns

@@ -11,19 +11,16 @@ enum-known-answer : tie.Need-enum-known-answer
 enum-known-answer c = search needs
 
 give-scheduled-requires : tie.Need-give-scheduled-requires
-give-scheduled-requires c κs = search needs
+give-scheduled-requires c κs = tt
 
 enum-known-answer-2 : tie.Need-enum-known-answer-2
 enum-known-answer-2 c = search needs
 
-cast-t10 : tie.Need-cast-t10
-cast-t10 c = search needs
+cast-give-two : tie.Need-cast-give-two
+cast-give-two c = search needs
 
-slice-aggregate-give : tie.Need-slice-aggregate-give
-slice-aggregate-give c = search needs
-
-give-requires : tie.Need-give-requires
-give-requires c κs = tt
+give-two-requires : tie.Need-give-two-requires
+give-two-requires c κs = tt
 
 enum-known-answer-3 : tie.Need-enum-known-answer-3
 enum-known-answer-3 c = search needs
@@ -38,7 +35,7 @@ same-length-2 : tie.Need-same-length-2
 same-length-2 c = search needs
 
 returns-2 : tie.Need-returns-2
-returns-2 c = given-as _ (ap eventNumbers (sym (c .before .before .before .before .before .before .before .answer2 .given .1))) (c .before .before .give .ensures)
+returns-2 c = given-as _ (ap eventNumbers (sym (c .before .before .before .before .before .before .answer2 .given .1))) (c .before .before .give-two .ensures)
 
 returns-3 : tie.Need-returns-3
 returns-3 c = given-as _ (ap eventNumbers (sym (c .before .answer3 .given .1))) (not-given _ _)
@@ -50,9 +47,8 @@ schedule-event-spec =
     enum-known-answer
     give-scheduled-requires
     enum-known-answer-2
-    cast-t10
-    slice-aggregate-give
-    give-requires
+    cast-give-two
+    give-two-requires
     enum-known-answer-3
     same-length
     returns

@@ -10,14 +10,11 @@ use Rattle.flat.proofs.segmentation_component.Tie as tie
 enum-known-answer : tie.Need-enum-known-answer
 enum-known-answer c = search needs
 
-cast-t8 : tie.Need-cast-t8
-cast-t8 c = search needs
+cast-give-two : tie.Need-cast-give-two
+cast-give-two c = search needs
 
-slice-aggregate-give : tie.Need-slice-aggregate-give
-slice-aggregate-give c = search needs
-
-give-requires : tie.Need-give-requires
-give-requires c κs = tt
+give-two-requires : tie.Need-give-two-requires
+give-two-requires c κs = tt
 
 enum-known-answer-2 : tie.Need-enum-known-answer-2
 enum-known-answer-2 c = search needs
@@ -26,7 +23,7 @@ same-length : tie.Need-same-length
 same-length c = search needs
 
 returns : tie.Need-returns
-returns c = given-as _ (ap segmentationComponentNumbers (sym (c .before .before .before .before .before .before .answer .given .1))) (c .before .before .give .ensures)
+returns c = given-as _ (ap segmentationComponentNumbers (sym (c .before .before .before .before .before .answer .given .1))) (c .before .before .give-two .ensures)
 
 returns-2 : tie.Need-returns-2
 returns-2 c = given-as _ (ap segmentationComponentNumbers (sym (c .before .answer2 .given .1))) (not-given _ _)
@@ -36,9 +33,8 @@ segmentation-component-spec =
     tie.close
     (tie.spec
     enum-known-answer
-    cast-t8
-    slice-aggregate-give
-    give-requires
+    cast-give-two
+    give-two-requires
     enum-known-answer-2
     same-length
     returns

@@ -10,11 +10,8 @@ use Rattle.flat.proofs.upid.Tie as tie
 enum-known-answer : tie.Need-enum-known-answer
 enum-known-answer c = search needs
 
-slice-aggregate-give : tie.Need-slice-aggregate-give
-slice-aggregate-give c = search needs
-
-give-requires : tie.Need-give-requires
-give-requires c κs = tt
+give-two-requires : tie.Need-give-two-requires
+give-two-requires c κs = tt
 
 enum-known-answer-2 : tie.Need-enum-known-answer-2
 enum-known-answer-2 c = search needs
@@ -23,7 +20,7 @@ same-length : tie.Need-same-length
 same-length c = search needs
 
 returns : tie.Need-returns
-returns c = given-as _ (ap upidNumbers (sym (c .before .before .before .before .before .before .answer .given .1))) (c .before .before .give .ensures)
+returns c = given-as _ (ap upidNumbers (sym (c .before .before .before .before .before .answer .given .1))) (c .before .before .give-two .ensures)
 
 returns-2 : tie.Need-returns-2
 returns-2 c = given-as _ (ap upidNumbers (sym (c .before .answer2 .given .1))) (not-given _ _)
@@ -33,8 +30,7 @@ upid-spec =
     tie.close
     (tie.spec
     enum-known-answer
-    slice-aggregate-give
-    give-requires
+    give-two-requires
     enum-known-answer-2
     same-length
     returns
