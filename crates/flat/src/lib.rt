@@ -3,7 +3,7 @@
 mod lists;
 
 ghost use mathlib.Core.Path.{_≡_};
-ghost use Rattle.flat.specs.Numbers.{these, given, givenInto, commandNumbers, insertComponentNumbers, eventNumbers, eventComponentNumbers, privateByteNumbers, knownCountNumbers, descriptorNumbers, dtmfCharNumbers, segmentationComponentNumbers, audioComponentNumbers, upidNumbers, insertNumbers, scheduledNumbers, segmentationNumbers, timeNumbers, breakAnswerNumbers, effectiveTimeNumbers, dvbNumbers, labelNumbers};
+ghost use Rattle.flat.specs.Numbers.{these, given, givenInto, commandNumbers, insertComponentNumbers, eventNumbers, eventComponentNumbers, privateByteNumbers, knownCountNumbers, descriptorNumbers, dtmfCharNumbers, segmentationComponentNumbers, audioComponentNumbers, upidNumbers, breakAnswerNumbers, effectiveTimeNumbers, dvbNumbers, labelNumbers, insertNumbers, scheduledNumbers, segmentationNumbers, timeNumbers};
 ghost use mathlib.Core.List.{[], _∷_};
 use command_reading::Command;
 use command_reading::Event;
@@ -220,10 +220,10 @@ pub fn break_answer(answer: Break, out: &mut [u64]) -> Written
     ensures { λ r. ⌜ (r ≡ given (breakAnswerNumbers answer) (now (out .entry))) × (now (out .exit) ≡ givenInto (breakAnswerNumbers answer) (now (out .entry))) ⌝ }
 {
     match answer {
-        Break::None => give(&[0], out),
-        Break::Measured(ticks) => give(&[1, ticks.0], out),
-        Break::Unmeasured => give(&[2], out),
-        Break::Unread => give(&[3], out),
+        Break::None => give_one(0, out),
+        Break::Measured(ticks) => give_two(1, ticks.0, out),
+        Break::Unmeasured => give_one(2, out),
+        Break::Unread => give_one(3, out),
         Break::Refused(refusal) => Written::Refused(refusal),
     }
 }
@@ -233,8 +233,8 @@ pub fn effective_time(answer: EffectiveTime, out: &mut [u64]) -> Written
     ensures { λ r. ⌜ (r ≡ given (effectiveTimeNumbers answer) (now (out .entry))) × (now (out .exit) ≡ givenInto (effectiveTimeNumbers answer) (now (out .entry))) ⌝ }
 {
     match answer {
-        EffectiveTime::None => give(&[0], out),
-        EffectiveTime::At(ticks) => give(&[1, ticks.0], out),
+        EffectiveTime::None => give_one(0, out),
+        EffectiveTime::At(ticks) => give_two(1, ticks.0, out),
         EffectiveTime::Refused(refusal) => Written::Refused(refusal),
     }
 }
@@ -244,8 +244,8 @@ pub fn dvb(answer: Dvb, out: &mut [u64]) -> Written
     ensures { λ r. ⌜ (r ≡ given (dvbNumbers answer) (now (out .entry))) × (now (out .exit) ≡ givenInto (dvbNumbers answer) (now (out .entry))) ⌝ }
 {
     match answer {
-        Dvb::No => give(&[0], out),
-        Dvb::Yes => give(&[1], out),
+        Dvb::No => give_one(0, out),
+        Dvb::Yes => give_one(1, out),
         Dvb::Refused(refusal) => Written::Refused(refusal),
     }
 }
@@ -255,8 +255,8 @@ pub fn label(answer: Label, house: usize, out: &mut [u64]) -> Written
     ensures { λ r. ⌜ (r ≡ given (labelNumbers house answer) (now (out .entry))) × (now (out .exit) ≡ givenInto (labelNumbers house answer) (now (out .entry))) ⌝ }
 {
     match answer {
-        Label::Upid(at, length) => give(&[0, at as u64, length as u64], out),
-        Label::House => give(&[1, 0, house as u64], out),
+        Label::Upid(at, length) => give_three(0, at as u64, length as u64, out),
+        Label::House => give_three(1, 0, house as u64, out),
     }
 }
 

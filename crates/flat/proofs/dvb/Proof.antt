@@ -10,20 +10,14 @@ use Rattle.flat.proofs.dvb.Tie as tie
 enum-told : tie.Need-enum-told
 enum-told c = search needs
 
-slice-aggregate-give : tie.Need-slice-aggregate-give
-slice-aggregate-give c = search needs
-
-give-requires : tie.Need-give-requires
-give-requires c κs = tt
+give-one-requires : tie.Need-give-one-requires
+give-one-requires c κs = tt
 
 enum-told-2 : tie.Need-enum-told-2
 enum-told-2 c = search needs
 
-slice-aggregate-give-2 : tie.Need-slice-aggregate-give-2
-slice-aggregate-give-2 c = search needs
-
-give-requires-2 : tie.Need-give-requires-2
-give-requires-2 c κs = tt
+give-one-requires-2 : tie.Need-give-one-requires-2
+give-one-requires-2 c κs = tt
 
 enum-known-answer : tie.Need-enum-known-answer
 enum-known-answer c = search needs
@@ -32,13 +26,13 @@ same-length : tie.Need-same-length
 same-length c = search needs
 
 returns : tie.Need-returns
-returns c = given-as _ (ap dvbNumbers (sym (c .before .before .before .before .before .enum-told .given .1))) (c .before .before .give .ensures)
+returns c = given-as _ (ap dvbNumbers (sym (c .before .before .before .before .enum-told .given .1))) (c .before .before .give-one .ensures)
 
 same-length-2 : tie.Need-same-length-2
 same-length-2 c = search needs
 
 returns-2 : tie.Need-returns-2
-returns-2 c = given-as _ (ap dvbNumbers (sym (c .before .before .before .before .before .enum-told2 .given .1))) (c .before .before .give2 .ensures)
+returns-2 c = given-as _ (ap dvbNumbers (sym (c .before .before .before .before .enum-told2 .given .1))) (c .before .before .give-one2 .ensures)
 
 returns-3 : tie.Need-returns-3
 returns-3 c = given-as _ (ap dvbNumbers (sym (c .before .answer .given .1))) (not-given _ _)
@@ -48,11 +42,9 @@ dvb-spec =
     tie.close
     (tie.spec
     enum-told
-    slice-aggregate-give
-    give-requires
+    give-one-requires
     enum-told-2
-    slice-aggregate-give-2
-    give-requires-2
+    give-one-requires-2
     enum-known-answer
     same-length
     returns

@@ -10,43 +10,35 @@ use Rattle.flat.proofs.label.Tie as tie
 enum-known-answer : tie.Need-enum-known-answer
 enum-known-answer c = search needs
 
-slice-aggregate-give : tie.Need-slice-aggregate-give
-slice-aggregate-give c = search needs
-
-give-requires : tie.Need-give-requires
-give-requires c κs = tt
+give-three-requires : tie.Need-give-three-requires
+give-three-requires c κs = tt
 
 enum-told : tie.Need-enum-told
 enum-told c = search needs
 
-slice-aggregate-give-2 : tie.Need-slice-aggregate-give-2
-slice-aggregate-give-2 c = search needs
-
-give-requires-2 : tie.Need-give-requires-2
-give-requires-2 c κs = tt
+give-three-requires-2 : tie.Need-give-three-requires-2
+give-three-requires-2 c κs = tt
 
 same-length : tie.Need-same-length
 same-length c = search needs
 
 returns : tie.Need-returns
-returns c = given-as _ (ap (labelNumbers _) (sym (c .before .before .before .before .before .before .answer .given .1))) (c .before .before .give .ensures)
+returns c = given-as _ (ap (labelNumbers _) (sym (c .before .before .before .before .before .answer .given .1))) (c .before .before .give-three .ensures)
 
 same-length-2 : tie.Need-same-length-2
 same-length-2 c = search needs
 
 returns-2 : tie.Need-returns-2
-returns-2 c = given-as _ (ap (labelNumbers _) (sym (c .before .before .before .before .before .enum-told .given .1))) (c .before .before .give2 .ensures)
+returns-2 c = given-as _ (ap (labelNumbers _) (sym (c .before .before .before .before .enum-told .given .1))) (c .before .before .give-three2 .ensures)
 
 pub label-spec : {M : Type 1} → statement M
 label-spec =
     tie.close
     (tie.spec
     enum-known-answer
-    slice-aggregate-give
-    give-requires
+    give-three-requires
     enum-told
-    slice-aggregate-give-2
-    give-requires-2
+    give-three-requires-2
     same-length
     returns
     same-length-2
