@@ -9,6 +9,7 @@ use native.Mathlib.Omega.{arith}
 use lib.ListN.{length}
 use lib.Dec.{eqb, ltb}
 use borrow.Author.Tests.{le-leb, eq-eqb, ne-eqb, le-ltb, lt-ltb}
+use Rattle.grammar.proofs.Readings.{reached-at}
 use Rattle.bits.specs.Bits.{bit, num}
 use Rattle.grammar.specs.Syntax.{field, reserved, is}
 use Rattle.grammar.specs.Meaning.{Env, values, Reading, reached, again, read, breach, ends, endOf}
@@ -24,7 +25,7 @@ use Rattle.commands.specs.Command.{known, tableOf, eventPlace}
 use Rattle.command_reading.specs.declared.lists.Span.{Span}
 use Rattle.command_reading.specs.Command.{commandReading, typed, commandTrace, eventRows, scheduledOf, eventComponentIn}
 use Rattle.command_reading.specs.Places.{eventIs}
-use Rattle.command_reading.proofs.Said.{reached-at, came, bounds, by-table, trace-is}
+use Rattle.command_reading.proofs.Said.{came, bounds, by-table, trace-is}
 use Rattle.command_reading.proofs.Shorter.{endless, onward}
 use Rattle.command_reading.proofs.Firsts.{anew, first-end, one-more}
 use Rattle.command_reading.proofs.Event.{event-tells}

@@ -25,14 +25,6 @@ use Rattle.command_reading.proofs.Times.{time-tells}
 use Rattle.command_reading.proofs.Insert.{insert-tells}
 use Rattle.command_reading.proofs.Private.{Private, private-tells}
 
--- a reading that ends at j reached it
-pub reached-at : (r : Reading) (j : ℕ) → endOf r ≡ ends j → r ≡ reached j (traceOf r)
-unfolding endOf traceOf
-reached-at (broken n) j e = let z : _≡_ {A = ℕ} 0 1 = cc in absurd (omega arith)
-reached-at (reached k t) j e =
-    let same : k ≡ j = cc in
-    ap (λ (x : ℕ). reached x t) same
-
 -- a command that breaks its table is refused
 pub refused : (s : List ℕ) → endOf (commandReading s) ≡ breach 0 → Command.Refused Refusal.Command ≡ says.command s
 unfolding says.command endOf whereRead

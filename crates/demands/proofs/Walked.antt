@@ -17,7 +17,7 @@ use Rattle.grammar.specs.Names.{Name, isNamed, look, before}
 use Rattle.grammar.proofs.Ends.{given}
 use Rattle.grammar.proofs.Each.{every, Each, each-append, trace-each}
 use Rattle.grammar.proofs.Names.{other, before-past, Opens, opens}
-use Rattle.grammar.proofs.Readings.{Reads, rows-parts, frame-parts}
+use Rattle.grammar.proofs.Readings.{Reads, rows-parts, frame-parts, reached-at}
 use Rattle.grammar.proofs.Determined.{AllBlanked}
 use Rattle.descriptors.specs.declared.Cursor.{Cursor}
 use Rattle.descriptors.specs.declared.Kind.{Kind}
@@ -25,7 +25,6 @@ use Rattle.descriptors.specs.declared.Step.{Step}
 use Rattle.descriptors.specs.Walk.{byTag, kindOf, stepOf}
 use Rattle.descriptors.specs.Loop.{onStep, walk, walked, traceAt, tracesAt}
 use Rattle.descriptors.proofs.Walk.{stepped}
-use Rattle.command_reading.proofs.Said.{reached-at}
 use Rattle.descriptor_reading.specs.Descriptor.{isKnown, knownAmong}
 use Rattle.descriptor_reading.proofs.Told.{not-true}
 use Rattle.demands.specs.Same.{without, parts, isOwn, own}

@@ -15,7 +15,7 @@ use Rattle.grammar.specs.Meaning.{Env, valueOf, values, bind, holds, Reading, b
 use Rattle.grammar.specs.Tables.{bytes, known-descriptor, splice-descriptor}
 use Rattle.grammar.specs.Traces.{Trace, traceOf}
 use Rattle.grammar.proofs.Ends.{covers}
-use Rattle.grammar.proofs.Readings.{Reads, rows-parts, arm-parts, frame-parts}
+use Rattle.grammar.proofs.Readings.{Reads, rows-parts, arm-parts, frame-parts, reached-at}
 use Rattle.descriptors.specs.declared.Cursor.{Cursor}
 use Rattle.descriptors.specs.declared.Kind.{Kind}
 use Rattle.descriptors.specs.declared.Step.{Step}
@@ -56,14 +56,6 @@ module _ (env : Env) (f : ℕ → ℕ) (end k j : ℕ) (t : Trace) where
       (by-tag (num (bit s) (8 * at) 8) tag) (λ q. q)
 
 -- ---- the descriptor
-
--- a reading that ends at j reached it
-reached-at : (r : Reading) (j : ℕ) → endOf r ≡ ends j → r ≡ reached j (traceOf r)
-unfolding endOf traceOf
-reached-at (broken n) j e = let z : _≡_ {A = ℕ} 0 1 = cc in absurd (omega arith)
-reached-at (reached k t) j e =
-    let same : k ≡ j = cc in
-    ap (λ (x : ℕ). reached x t) same
 
 -- what Table 17 reads from byte `at` on, up to byte `stop`
 stands-read : (s : List ℕ) (at end stop : ℕ) (t : Trace) → length s ≤ 4096 → end ≤ length s → isKnown (kindOf s at) ≡ true

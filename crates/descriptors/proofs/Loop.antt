@@ -9,6 +9,7 @@ use native.Mathlib.Omega.{arith}
 use lib.ListN.{length}
 use lib.Dec.{ltb}
 use borrow.Author.Tests.{lt-ltb}
+use Rattle.grammar.proofs.Readings.{reached-at}
 use Rattle.bits.specs.Bits.{bit}
 use Rattle.grammar.specs.Syntax.{Item, done, fill}
 use Rattle.grammar.specs.Meaning.{Env, Reading, broken, reached, after, then, sweep, read, Outcome, ends, breach, endOf, run}
@@ -23,14 +24,6 @@ use Rattle.descriptors.specs.Walk.{stepOf}
 use Rattle.descriptors.specs.Loop.{onStep, walk, walked, traceAt, tracesAt}
 use Rattle.descriptors.proofs.Walk.{stepped, stuck, at-end}
 use Rattle.grammar.proofs.Scope.{scoped, same-read}
-
--- a reading that ends at j reached it
-reached-at : (r : Reading) (j : ℕ) → endOf r ≡ ends j → r ≡ reached j (traceOf r)
-unfolding endOf traceOf
-reached-at (broken n) j e = let z : _≡_ {A = ℕ} 0 1 = cc in absurd (omega arith)
-reached-at (reached k t) j e =
-    let same : k ≡ j = cc in
-    ap (λ (x : ℕ). reached x t) same
 
 -- and one that breaks is broken
 broken-at : (r : Reading) (n : ℕ) → endOf r ≡ breach n → r ≡ broken n

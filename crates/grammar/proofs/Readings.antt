@@ -9,8 +9,16 @@ use native.Mathlib.Omega.{arith}
 use lib.Dec.{leb, eqb}
 use borrow.Author.Tests.{leb-true, eqb-true}
 use Rattle.grammar.specs.Syntax.{Item, Test, Prog, done, fields, branch, frame, under}
-use Rattle.grammar.specs.Meaning.{Env, valueOf, width, values, bind, holds, Reading, broken, reached, after, then, exactly, numbered, read}
-use Rattle.grammar.specs.Traces.{Trace}
+use Rattle.grammar.specs.Meaning.{Env, valueOf, width, values, bind, holds, Reading, broken, reached, after, then, exactly, numbered, read, ends, endOf}
+use Rattle.grammar.specs.Traces.{Trace, traceOf}
+
+-- a reading that ends at j reached it
+pub reached-at : (r : Reading) (j : ℕ) → endOf r ≡ ends j → r ≡ reached j (traceOf r)
+unfolding endOf traceOf
+reached-at (broken n) j e = let z : _≡_ {A = ℕ} 0 1 = cc in absurd (omega arith)
+reached-at (reached k t) j e =
+    let same : k ≡ j = cc in
+    ap (λ (x : ℕ). reached x t) same
 
 -- ---- the ways of putting readings together
 

@@ -5,6 +5,7 @@ use mathlib.Core.List.{List}
 use Prim.Native.Nat.{ℕ, _-_, _*_}
 use native.Mathlib.Omega.{arith}
 use lib.ListN.{getD}
+use Rattle.grammar.proofs.Readings.{reached-at}
 use Rattle.bits.specs.Bits.{bit, num}
 use Rattle.bits.proofs.Fields.{field-lt}
 use Rattle.grammar.specs.Meaning.{reached}
@@ -13,7 +14,7 @@ use Rattle.grammar.specs.Ended.{outcome}
 use Rattle.grammar.proofs.Places.{octet}
 use Rattle.command_reading.specs.declared.answers.Command.{Command}
 use Rattle.command_reading.specs.Command.{commandReading}
-use Rattle.command_reading.proofs.Said.{reached-at, refused, bounds, null, schedule, insert, signal, reservation, private-rows, private-one, unread}
+use Rattle.command_reading.proofs.Said.{refused, bounds, null, schedule, insert, signal, reservation, private-rows, private-one, unread}
 use borrow.Author.Needs.{needs}
 use Rattle.command_reading.proofs.command.Statement.{statement}
 use Rattle.command_reading.proofs.command.Tie as tie

@@ -7,6 +7,7 @@ use Prim.Native.Nat.{ℕ, _*_, _≤_, _<_}
 use native.Mathlib.Omega.{arith}
 use lib.ListN.{getD}
 use lib.Dec.{eqb}
+use Rattle.grammar.proofs.Readings.{reached-at}
 use Rattle.bits.specs.Bits.{bit, num, fieldOf, flagOf}
 use Rattle.grammar.specs.Meaning.{reached}
 use Rattle.grammar.specs.declared.Ended.{Ended}
@@ -17,7 +18,7 @@ use Rattle.command_reading.specs.Command.{commandReading, commandTrace, 
 use Rattle.commands.specs.Command.{componentPlace}
 use Rattle.command_reading.specs.Places.{insertComponentAt}
 use Rattle.bits.proofs.Fields.{field-lt}
-use Rattle.command_reading.proofs.Said.{reached-at, bounds}
+use Rattle.command_reading.proofs.Said.{bounds}
 use Rattle.command_reading.proofs.Nothing.{no-component}
 use Rattle.command_reading.proofs.ComponentAt.{not-insert, absent, somewhere, at-place}
 use borrow.Author.Needs.{needs}
