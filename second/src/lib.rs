@@ -6,6 +6,7 @@ pub mod bits;
 pub mod crc;
 pub mod hex;
 pub mod house;
+pub mod lines;
 pub mod reading;
 pub mod refusal;
 pub mod section;
