@@ -1,9 +1,13 @@
 //! The command for people: one question to the second program, its answer on standard output.
-//! Exit status 0 for an answer, 1 for a refusal, 2 for bad usage.
+//! Exit status 0 for an answer, 1 for a refusal, 2 for bad usage. `tally` answers every line of
+//! standard input: 0 once all are answered, refusals too, and 3 if reading or writing fails.
 #![forbid(unsafe_code)]
 
 use second::reading::{self, Reading};
-use second::{bits, crc, hex, house, refusal, section, sheet, text, units};
+use second::{bits, crc, hex, house, lines, refusal, section, sheet, text, units};
+use std::fs::File;
+use std::io;
+use std::os::fd::AsFd;
 use std::process::ExitCode;
 
 const USAGE: &str = "\
@@ -27,6 +31,7 @@ usage: second accept HEX                       whether a section is accepted, an
        second dvb HEX                          whether DVB-DASH allows its command
        second label HEX HOUSE-HEX              its bill label, under this house name
        second numbers QUESTION HEX ..          the answer to one of these fifteen as a flat list
+       second tally                            the breaks of texts on standard input, one a line
        second to-section TEXT [ROOM]           the bytes of a base64 text
        second to-section-hex HEX [ROOM]        the same, the text given as hex bytes
        second to-text HEX [ROOM]               the base64 text of a section
@@ -45,7 +50,31 @@ enum Failure {
 fn main() -> ExitCode {
     let given: Vec<_> = std::env::args_os().skip(1).collect();
     let words: Vec<&[u8]> = given.iter().map(|word| word.as_encoded_bytes()).collect();
-    match answer(&words) {
+    match words.as_slice() {
+        [b"tally"] => tally(),
+        words => one_answer(words),
+    }
+}
+
+fn tally() -> ExitCode {
+    match tally_standard_input() {
+        Ok(()) => ExitCode::SUCCESS,
+        Err(error) => {
+            eprintln!("second: {error}");
+            ExitCode::from(3)
+        }
+    }
+}
+
+/// As plain files, since Rust's own standard streams pass over some failures.
+fn tally_standard_input() -> io::Result<()> {
+    let input = File::from(io::stdin().as_fd().try_clone_to_owned()?);
+    let output = File::from(io::stdout().as_fd().try_clone_to_owned()?);
+    lines::tally(input, output)
+}
+
+fn one_answer(words: &[&[u8]]) -> ExitCode {
+    match answer(words) {
         Ok(answer) => {
             println!("{answer}");
             ExitCode::SUCCESS
