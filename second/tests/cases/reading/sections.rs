@@ -12,7 +12,6 @@ pub fn short(bench: &mut Bench) {
     }
 }
 
-/// Some with every number, more with some numbers.
 pub fn long(bench: &mut Bench) {
     for _ in 0..30 {
         let built = middling_section(&mut bench.random);
@@ -20,9 +19,7 @@ pub fn long(bench: &mut Bench) {
     }
     for _ in 0..150 {
         let built = any_section(&mut bench.random, Size::Long);
-        for _ in 0..3 {
-            bench.ask_each(&built.bytes);
-        }
+        bench.ask_everything(&built.bytes);
     }
 }
 
@@ -53,6 +50,6 @@ pub fn every_command_with_every_descriptor(bench: &mut Bench) {
 pub fn of_sealed_bytes(bench: &mut Bench) {
     for count in 7..=300 {
         let built = sealed(&mut bench.random, count);
-        bench.ask_each(&built.bytes);
+        bench.ask_everything(&built.bytes);
     }
 }
