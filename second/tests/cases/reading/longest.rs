@@ -21,26 +21,23 @@ pub fn all(bench: &mut Bench) {
     }
     for _ in 0..15 {
         let built = filled_section(&mut bench.random);
-        ask_often(bench, &built.bytes);
+        ask(bench, &built.bytes);
         let built = longest_section(&mut bench.random);
-        ask_often(bench, &built.bytes);
+        ask(bench, &built.bytes);
         let built = any_section(&mut bench.random, Size::Short);
         let more = bench.random.bytes(LONGEST - built.bytes.len());
-        ask_often(bench, &grown(&built.bytes, &more));
+        ask(bench, &grown(&built.bytes, &more));
     }
     let built = sealed(&mut bench.random, LONGEST - 17);
-    ask_often(bench, &built.bytes);
+    ask(bench, &built.bytes);
     one_command(bench);
     many_descriptors(bench);
     lists_behind_many(bench);
 }
 
-/// Each question ten times, with some numbers.
-fn ask_often(bench: &mut Bench, section: &[u8]) {
+fn ask(bench: &mut Bench, section: &[u8]) {
     assert_eq!(section.len(), LONGEST);
-    for _ in 0..10 {
-        bench.ask_each(section);
-    }
+    bench.ask_everything(section);
 }
 
 /// A private command that fills the section, and a schedule of as many events as it can have.
@@ -54,7 +51,7 @@ fn one_command(bench: &mut Bench) {
     let events = (0..255).map(|_| Event::Cancelled.part(random)).collect();
     let stuffing = random.bytes(LONGEST - FRAME - (1 + 255 * 5));
     let built = section(random, Command::schedule_of(events), vec![], &stuffing);
-    ask_often(bench, &built.bytes);
+    ask(bench, &built.bytes);
 }
 
 /// As many known descriptors as fit, more than a byte can count.
@@ -66,7 +63,7 @@ fn many_descriptors(bench: &mut Bench) {
         let count = Vec::len(&list);
         let stuffing = bench.random.bytes(stuffing);
         let built = section(&mut bench.random, Command::null(), list, &stuffing);
-        ask_often(bench, &built.bytes);
+        ask(bench, &built.bytes);
         for n in 0..count {
             assert!(bench.ask(&KNOWN_DESCRIPTOR, &built.bytes, &[n]));
         }

@@ -15,9 +15,7 @@ fn asked(bench: &mut Bench, section: &[u8]) -> u8 {
     match bench.answer(&COMMAND, section, &[]) {
         Err(row) if row != SEALED => row,
         _ => {
-            if bench.random.once_in(10) && section.len() < 200 {
-                bench.ask_everything(section);
-            }
+            bench.ask_everything(section);
             0
         }
     }
