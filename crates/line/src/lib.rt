@@ -1,0 +1,82 @@
+// The answer line of a text: what the tally says of one cue, and how it is spelled.
+mod spelling;
+
+ghost use mathlib.Core.Path.{_≡_};
+ghost use lib.ListN.{length};
+ghost use Rattle.text.specs.Text.{readInto};
+ghost use Rattle.line.specs.Line.{answerIn, inMillis, refusedText, spellAnswer, spellInto};
+ghost use Rattle.line.specs.Line as says;
+use house::Break;
+use units::Millis;
+use units::Refusal;
+use units::Written;
+
+// What a line says of its text.
+pub enum Line {
+    // `A m`: a break that lasts so long.
+    Measured(Millis),
+    // `B`: a break whose cue says no duration.
+    Unmeasured,
+    // `N`: no break.
+    None,
+    // `X`: sealed, or a command of a type that the standard does not have.
+    Unread,
+    // `R n`: not a text, or not the text of a section.
+    Refused(Refusal),
+}
+
+// The answer to a text.
+pub fn answer(text: &[u8]) -> Line
+    ensures { λ r. ⌜ r ≡ says.lineAnswer (now (text .entry)) ⌝ }
+{
+    // the bytes of the longest text
+    let mut section = [0u8; 4098];
+    answer_in(text, &mut section)
+}
+
+// The same, with the section's bytes in lent memory.
+pub fn answer_in(text: &[u8], section: &mut [u8]) -> Line
+    ensures { λ r. ⌜ (r ≡ answerIn (now (text .entry)) (length (now (section .entry)))) × (now (section .exit) ≡ readInto (now (text .entry)) (now (section .entry))) ⌝ }
+{
+    let read = text::to_section(text, section);
+    let Written::Count(count) = read else {
+        return refused_text(read);
+    };
+    in_millis(house::break_answer(&section[..count]))
+}
+
+// A refusal of the text goes out under its own number.
+fn refused_text(read: Written) -> Line
+    ensures { λ r. ⌜ r ≡ refusedText read ⌝ }
+{
+    match read {
+        Written::Refused(refusal) => Line::Refused(refusal),
+        Written::Count(_) => Line::None,
+    }
+}
+
+fn in_millis(answer: Break) -> Line
+    ensures { λ r. ⌜ r ≡ inMillis answer ⌝ }
+{
+    match answer {
+        Break::None => Line::None,
+        Break::Measured(ticks) => Line::Measured(ticks.to_millis()),
+        Break::Unmeasured => Line::Unmeasured,
+        Break::Unread => Line::Unread,
+        Break::Refused(refusal) => Line::Refused(refusal),
+    }
+}
+
+// The line as characters, its newline among them, written to the front of out.
+pub fn spell(line: Line, out: &mut [u8]) -> Written
+    ensures { λ r. ⌜ (r ≡ spellAnswer line (now (out .entry))) × (now (out .exit) ≡ spellInto line (now (out .entry))) ⌝ }
+{
+    // the longest line: a letter, a blank, twenty digits and a newline
+    let mut characters = [0u8; 23];
+    let n = spelling::put(line, &mut characters);
+    if out.len() < n {
+        return Written::Refused(Refusal::Room);
+    }
+    spelling::copy(&characters[..n], out);
+    Written::Count(n)
+}

@@ -1,0 +1,53 @@
+// The carry buffer, which has room for the longest text: the characters of a line that was cut.
+ghost use mathlib.Core.Path.{_≡_};
+ghost use Prim.Native.Nat.{_+_, _≤_};
+ghost use lib.ListN.{length, take, drop};
+ghost use mathlib.Core.List.{_++_};
+ghost use Rattle.lines.specs.Turns.{heldWith, carryWith, carryEnded};
+ghost use Rattle.lines.specs.Turns as says;
+use crate::Held;
+use line::Line;
+use units::Refusal;
+
+// A part of a line, put behind what is held of it.
+pub(crate) fn keep(held: Held, part: &[u8], carry: &mut [u8]) -> Held
+    requires { ⌜ 5464 ≤ length (now carry) ⌝ }
+    ensures { λ r. ⌜ (r ≡ heldWith held (now (part .entry))) × (now (carry .exit) ≡ carryWith held (now (carry .entry)) (now (part .entry))) ⌝ }
+{
+    let Held::Characters(n) = held else {
+        return Held::TooLong;
+    };
+    if 5464 < n {
+        return Held::TooLong;
+    }
+    if 5464 - n < part.len() {
+        return Held::TooLong;
+    }
+    append(part, carry, n);
+    Held::Characters(n + part.len())
+}
+
+// The answer to a line that ends after the part. A line of which nothing is held stands whole in the input.
+pub(crate) fn ended(held: Held, part: &[u8], carry: &mut [u8], section: &mut [u8]) -> Line
+    requires { ⌜ (5464 ≤ length (now carry)) × (length (now section) ≡ 4098) ⌝ }
+    ensures { λ r. ⌜ (r ≡ says.ended held (now (carry .entry)) (now (part .entry))) × (now (carry .exit) ≡ carryEnded held (now (carry .entry)) (now (part .entry))) ⌝ }
+{
+    if let Held::Characters(n) = held {
+        if n == 0 {
+            return line::answer_in(part, section);
+        }
+    }
+    match keep(held, part, carry) {
+        Held::Characters(n) => line::answer_in(&carry[..n], section),
+        Held::TooLong => Line::Refused(Refusal::TextLen),
+    }
+}
+
+fn append(part: &[u8], carry: &mut [u8], at: usize)
+    requires { ⌜ at + length (now part) ≤ length (now carry) ⌝ }
+    ensures { λ _. ⌜ now (carry .exit) ≡ take at (now (carry .entry)) ++ now (part .entry) ++ drop (at + length (now (part .entry))) (now (carry .entry)) ⌝ }
+{
+    for i in 0..part.len() {
+        carry[at + i] = part[i];
+    }
+}
