@@ -32,13 +32,25 @@ pub(crate) fn ended(held: Held, part: &[u8], carry: &mut [u8], section: &mut [u8
     requires { ⌜ (5464 ≤ length (now carry)) × (length (now section) ≡ 4098) ⌝ }
     ensures { λ r. ⌜ (r ≡ says.ended held (now (carry .entry)) (now (part .entry))) × (now (carry .exit) ≡ carryEnded held (now (carry .entry)) (now (part .entry))) ⌝ }
 {
-    if let Held::Characters(n) = held {
-        if n == 0 {
-            return line::answer_in(part, section);
+    match held {
+        Held::Characters(n) => {
+            if n == 0 {
+                line::answer_in(part, section)
+            } else {
+                joined(n, part, carry, section)
+            }
         }
+        Held::TooLong => Line::Refused(Refusal::TextLen),
     }
-    match keep(held, part, carry) {
-        Held::Characters(n) => line::answer_in(&carry[..n], section),
+}
+
+// The same for a line of which n characters are held, put together in the carry buffer.
+fn joined(n: usize, part: &[u8], carry: &mut [u8], section: &mut [u8]) -> Line
+    requires { ⌜ (5464 ≤ length (now carry)) × (length (now section) ≡ 4098) ⌝ }
+    ensures { λ r. ⌜ (r ≡ says.ended (Held.Characters n) (now (carry .entry)) (now (part .entry))) × (now (carry .exit) ≡ carryWith (Held.Characters n) (now (carry .entry)) (now (part .entry))) ⌝ }
+{
+    match keep(Held::Characters(n), part, carry) {
+        Held::Characters(end) => line::answer_in(&carry[..end], section),
         Held::TooLong => Line::Refused(Refusal::TextLen),
     }
 }
