@@ -2,6 +2,7 @@
 -- Assumes nothing.
 use mathlib.Core.Path.{_≡_, refl, sym, ap, ap₂, _∙_, subst}
 use mathlib.Core.Bool.{Bool, true, false, cond}
+use mathlib.Core.Logic.{⊎-elim}
 use mathlib.Core.List.{List, [], _∷_, _++_}
 use Prim.Native.Nat.{ℕ, suc, _+_, _≤_, _<_}
 use native.Mathlib.Nat.{add-zero}
@@ -10,6 +11,8 @@ use lib.Dec.{lit≤, ltb}
 use lib.ListN.{length, set, take, drop, length-append}
 use lib.Seq.{sets, sets-eq, length-sets, length-take-le, take-append-seam}
 use borrow.Author.Tests.{lt-ltb, le-ltb}
+use Rattle.bits.proofs.Cases.{le-or-lt}
+use Rattle.units.specs.declared.refusals.Refusal.{Refusal}
 use Rattle.units.specs.declared.refusals.Refusal.the-variants.{Room}
 use Rattle.units.specs.declared.refusals.Written.the-variants.{Count, Refused}
 use Rattle.units.specs.Refusals.{numberOf}
@@ -90,3 +93,21 @@ module _ (line : Line) (out : List ℕ) where
   pub written : length (spelled line) ≤ length out
       → (Count (length (spelled line)) ≡ spellAnswer line out) × (spelled line ++ drop (length (spelled line)) out ≡ spellInto line out)
   written h = by-room false (le-ltb _ _ h)
+
+  -- and the other way round: what the answer says of the room and of the memory
+  pub spell-refused : (r : Refusal) → spellAnswer line out ≡ Refused r → (length out < length (spelled line)) × (spellInto line out ≡ out)
+  spell-refused r e =
+      ⊎-elim (λ h. absurd (let z : _≡_ {A = ℕ} 0 1 = cc (written h .0) in omega arith)) (λ h. (h, sym (no-room h .1)))
+      (le-or-lt (length (spelled line)) (length out))
+
+  pub spell-counted : (n : ℕ) → spellAnswer line out ≡ Count n
+      → (n ≡ length (spelled line)) × (n ≤ length out) × (spellInto line out ≡ spelled line ++ drop n out)
+  spell-counted n e = ⊎-elim yes no (le-or-lt (length (spelled line)) (length out))
+    where
+      yes : length (spelled line) ≤ length out → (n ≡ length (spelled line)) × (n ≤ length out) × (spellInto line out ≡ spelled line ++ drop n out)
+      yes h =
+          let is = written h in
+          let all : n ≡ length (spelled line) = cc (is .0) in
+          (all, omega arith, sym (is .1) ∙ ap (λ (k : ℕ). spelled line ++ drop k out) (sym all))
+      no : length out < length (spelled line) → (n ≡ length (spelled line)) × (n ≤ length out) × (spellInto line out ≡ spelled line ++ drop n out)
+      no h = absurd (let z : _≡_ {A = ℕ} 0 1 = cc (no-room h .0) in omega arith)
