@@ -1,3 +1,4 @@
 pub mod Turning
 pub mod Holding
 pub mod Moving
+pub mod Streams
