@@ -14,8 +14,6 @@ use Rattle.command_reading.specs.declared.answers.InsertComponent.{InsertCompon
 use Rattle.command_reading.specs.declared.answers.EventTime.{EventTime}
 use Rattle.command_reading.specs.declared.answers.ScheduledEvent.{ScheduledEvent}
 use Rattle.command_reading.specs.declared.answers.Event.{Event}
-use Rattle.command_reading.specs.declared.answers.EventComponent.{EventComponent}
-use Rattle.command_reading.specs.declared.answers.PrivateByte.{PrivateByte}
 use Rattle.wire.specs.Wire.{flagNumber}
 use Rattle.wire.specs.Given.{Numbers, refused, these}
 
@@ -77,13 +75,3 @@ abbrev pub eventNumbers : Event → Numbers
 eventNumbers (Event.Scheduled e) = these (scheduledNumbers e)
 eventNumbers (Event.Cancelled id) = these (1 ∷ id .0 ∷ [])
 eventNumbers (Event.Refused r) = refused (numberOf r)
-
--- a component of an event: its tag and its time
-abbrev pub eventComponentNumbers : EventComponent → Numbers
-eventComponentNumbers (EventComponent.Component tag utc) = these (tag ∷ utc ∷ [])
-eventComponentNumbers (EventComponent.Refused r) = refused (numberOf r)
-
--- a byte of a private command
-abbrev pub privateByteNumbers : PrivateByte → Numbers
-privateByteNumbers (PrivateByte.Byte b) = these (b ∷ [])
-privateByteNumbers (PrivateByte.Refused r) = refused (numberOf r)

@@ -7,7 +7,7 @@ ghost use mathlib.Core.Path.{_≡_};
 ghost use Rattle.reading.specs.Reading as says;
 ghost use Rattle.wire.specs.Wire.{wire};
 ghost use Rattle.wire.specs.Given.{given, givenInto};
-ghost use Rattle.exports_commands.specs.Numbers.{commandNumbers, insertComponentNumbers, eventNumbers, eventComponentNumbers, privateByteNumbers};
+ghost use Rattle.exports_commands.specs.Numbers.{commandNumbers, insertComponentNumbers, eventNumbers};
 
 // The command of a section, as numbers: its case, and then the values of the case.
 #[no_mangle]
@@ -34,27 +34,4 @@ pub extern "C" fn timpanimist_schedule_event(section: &[u8], n: usize, out: &mut
 {
     let answer = reading::schedule_event(section, n);
     wire::number(numbers::schedule_event(answer, out))
-}
-
-// Component m of event n of a splice schedule: its tag, and its time.
-#[no_mangle]
-pub extern "C" fn timpanimist_event_component(
-    section: &[u8],
-    n: usize,
-    m: usize,
-    out: &mut [u64],
-) -> u64
-    ensures { λ r. ⌜ (r ≡ wire (given (eventComponentNumbers (says.eventComponent (now (section .entry)) n m)) (now (out .entry)))) × (now (out .exit) ≡ givenInto (eventComponentNumbers (says.eventComponent (now (section .entry)) n m)) (now (out .entry))) ⌝ }
-{
-    let answer = reading::event_component(section, n, m);
-    wire::number(numbers::event_component(answer, out))
-}
-
-// Byte n of a private command, after its identifier.
-#[no_mangle]
-pub extern "C" fn timpanimist_private_byte(section: &[u8], n: usize, out: &mut [u64]) -> u64
-    ensures { λ r. ⌜ (r ≡ wire (given (privateByteNumbers (says.privateByte (now (section .entry)) n)) (now (out .entry)))) × (now (out .exit) ≡ givenInto (privateByteNumbers (says.privateByte (now (section .entry)) n)) (now (out .entry))) ⌝ }
-{
-    let answer = reading::private_byte(section, n);
-    wire::number(numbers::private_byte(answer, out))
 }

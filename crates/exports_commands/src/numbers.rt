@@ -3,13 +3,11 @@ use crate::lists;
 ghost use mathlib.Core.Path.{_≡_};
 ghost use mathlib.Core.List.{_∷_};
 ghost use Rattle.wire.specs.Given.{these, given, givenInto};
-ghost use Rattle.exports_commands.specs.Numbers.{commandNumbers, insertComponentNumbers, eventNumbers, eventComponentNumbers, privateByteNumbers, insertNumbers, scheduledNumbers, timeNumbers};
+ghost use Rattle.exports_commands.specs.Numbers.{commandNumbers, insertComponentNumbers, eventNumbers, insertNumbers, scheduledNumbers, timeNumbers};
 use command_reading::Command;
 use command_reading::Event;
-use command_reading::EventComponent;
 use command_reading::Insert;
 use command_reading::InsertComponent;
-use command_reading::PrivateByte;
 use command_reading::ScheduledEvent;
 use command_reading::SpliceTime;
 use units::Written;
@@ -84,27 +82,4 @@ fn give_scheduled(event: ScheduledEvent, out: &mut [u64]) -> Written
     let mut list = [0u64; 11];
     let n = lists::scheduled(&mut list, 0, event);
     wire::give(&list[..n], out)
-}
-
-// A component of an event.
-pub(crate) fn event_component(answer: EventComponent, out: &mut [u64]) -> Written
-    ensures { λ r. ⌜ (r ≡ given (eventComponentNumbers answer) (now (out .entry))) × (now (out .exit) ≡ givenInto (eventComponentNumbers answer) (now (out .entry))) ⌝ }
-{
-    match answer {
-        EventComponent::Component {
-            component_tag,
-            utc_splice_time,
-        } => wire::give_two(component_tag as u64, utc_splice_time as u64, out),
-        EventComponent::Refused(refusal) => Written::Refused(refusal),
-    }
-}
-
-// A byte of a private command.
-pub(crate) fn private_byte(answer: PrivateByte, out: &mut [u64]) -> Written
-    ensures { λ r. ⌜ (r ≡ given (privateByteNumbers answer) (now (out .entry))) × (now (out .exit) ≡ givenInto (privateByteNumbers answer) (now (out .entry))) ⌝ }
-{
-    match answer {
-        PrivateByte::Byte(byte) => wire::give_one(byte as u64, out),
-        PrivateByte::Refused(refusal) => Written::Refused(refusal),
-    }
 }

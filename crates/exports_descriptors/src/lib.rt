@@ -7,7 +7,7 @@ ghost use mathlib.Core.Path.{_≡_};
 ghost use Rattle.reading.specs.Reading as says;
 ghost use Rattle.wire.specs.Wire.{wire};
 ghost use Rattle.wire.specs.Given.{given, givenInto};
-ghost use Rattle.exports_descriptors.specs.Numbers.{knownCountNumbers, descriptorNumbers, dtmfCharNumbers, segmentationComponentNumbers, audioComponentNumbers, upidNumbers};
+ghost use Rattle.exports_descriptors.specs.Numbers.{knownCountNumbers, descriptorNumbers};
 
 // How many known descriptors a section has.
 #[no_mangle]
@@ -25,50 +25,4 @@ pub extern "C" fn timpanimist_known_descriptor(section: &[u8], n: usize, out: &m
 {
     let answer = reading::known_descriptor(section, n);
     wire::number(numbers::known_descriptor(answer, out))
-}
-
-// Character m of known descriptor n, a DTMF descriptor.
-#[no_mangle]
-pub extern "C" fn timpanimist_dtmf_char(section: &[u8], n: usize, m: usize, out: &mut [u64]) -> u64
-    ensures { λ r. ⌜ (r ≡ wire (given (dtmfCharNumbers (says.dtmfChar (now (section .entry)) n m)) (now (out .entry)))) × (now (out .exit) ≡ givenInto (dtmfCharNumbers (says.dtmfChar (now (section .entry)) n m)) (now (out .entry))) ⌝ }
-{
-    let answer = reading::dtmf_char(section, n, m);
-    wire::number(numbers::dtmf_char(answer, out))
-}
-
-// Component m of known descriptor n, a segmentation descriptor: its tag, and its offset.
-#[no_mangle]
-pub extern "C" fn timpanimist_segmentation_component(
-    section: &[u8],
-    n: usize,
-    m: usize,
-    out: &mut [u64],
-) -> u64
-    ensures { λ r. ⌜ (r ≡ wire (given (segmentationComponentNumbers (says.segmentationComponent (now (section .entry)) n m)) (now (out .entry)))) × (now (out .exit) ≡ givenInto (segmentationComponentNumbers (says.segmentationComponent (now (section .entry)) n m)) (now (out .entry))) ⌝ }
-{
-    let answer = reading::segmentation_component(section, n, m);
-    wire::number(numbers::segmentation_component(answer, out))
-}
-
-// Component m of known descriptor n, an audio descriptor.
-#[no_mangle]
-pub extern "C" fn timpanimist_audio_component(
-    section: &[u8],
-    n: usize,
-    m: usize,
-    out: &mut [u64],
-) -> u64
-    ensures { λ r. ⌜ (r ≡ wire (given (audioComponentNumbers (says.audioComponent (now (section .entry)) n m)) (now (out .entry)))) × (now (out .exit) ≡ givenInto (audioComponentNumbers (says.audioComponent (now (section .entry)) n m)) (now (out .entry))) ⌝ }
-{
-    let answer = reading::audio_component(section, n, m);
-    wire::number(numbers::audio_component(answer, out))
-}
-
-// Where the UPID bytes of known descriptor n lie in the section, and how many they are.
-#[no_mangle]
-pub extern "C" fn timpanimist_upid(section: &[u8], n: usize, out: &mut [u64]) -> u64
-    ensures { λ r. ⌜ (r ≡ wire (given (upidNumbers (says.upid (now (section .entry)) n)) (now (out .entry)))) × (now (out .exit) ≡ givenInto (upidNumbers (says.upid (now (section .entry)) n)) (now (out .entry))) ⌝ }
-{
-    let answer = reading::upid(section, n);
-    wire::number(numbers::upid(answer, out))
 }
