@@ -1,0 +1,47 @@
+// The house's answers for programs in other languages, as lists of numbers. A slice passes as a pointer and then a length. The
+// answer is the count of numbers written, or 2^63 plus the refusal's number.
+mod numbers;
+
+ghost use mathlib.Core.Path.{_≡_};
+ghost use lib.ListN.{length};
+ghost use Rattle.house.specs.House as house_says;
+ghost use Rattle.wire.specs.Wire.{wire};
+ghost use Rattle.wire.specs.Given.{given, givenInto};
+ghost use Rattle.exports_house.specs.Numbers.{breakAnswerNumbers, effectiveTimeNumbers, dvbNumbers, labelNumbers};
+
+// Whether the section opens a break, and how long it lasts.
+#[no_mangle]
+pub extern "C" fn timpanimist_break(section: &[u8], out: &mut [u64]) -> u64
+    ensures { λ r. ⌜ (r ≡ wire (given (breakAnswerNumbers (house_says.breakAnswer (now (section .entry)))) (now (out .entry)))) × (now (out .exit) ≡ givenInto (breakAnswerNumbers (house_says.breakAnswer (now (section .entry)))) (now (out .entry))) ⌝ }
+{
+    let answer = house::break_answer(section);
+    wire::number(numbers::break_answer(answer, out))
+}
+
+// When the splice takes place on the stream's own clock.
+#[no_mangle]
+pub extern "C" fn timpanimist_effective_time(section: &[u8], out: &mut [u64]) -> u64
+    ensures { λ r. ⌜ (r ≡ wire (given (effectiveTimeNumbers (house_says.effectiveTime (now (section .entry)))) (now (out .entry)))) × (now (out .exit) ≡ givenInto (effectiveTimeNumbers (house_says.effectiveTime (now (section .entry)))) (now (out .entry))) ⌝ }
+{
+    let answer = house::effective_time(section);
+    wire::number(numbers::effective_time(answer, out))
+}
+
+// Whether the section passes the first DVB-DASH check.
+#[no_mangle]
+pub extern "C" fn timpanimist_dvb(section: &[u8], out: &mut [u64]) -> u64
+    ensures { λ r. ⌜ (r ≡ wire (given (dvbNumbers (house_says.dvb (now (section .entry)))) (now (out .entry)))) × (now (out .exit) ≡ givenInto (dvbNumbers (house_says.dvb (now (section .entry)))) (now (out .entry))) ⌝ }
+{
+    let answer = house::dvb(section);
+    wire::number(numbers::dvb(answer, out))
+}
+
+// Which bytes the break is billed under: in which slice they lie, 0 the section and 1 the house's name, where in it, and how
+// many they are.
+#[no_mangle]
+pub extern "C" fn timpanimist_bill_label(section: &[u8], house: &[u8], out: &mut [u64]) -> u64
+    ensures { λ r. ⌜ (r ≡ wire (given (labelNumbers (length (now (house .entry))) (house_says.billLabel (now (section .entry)))) (now (out .entry)))) × (now (out .exit) ≡ givenInto (labelNumbers (length (now (house .entry))) (house_says.billLabel (now (section .entry)))) (now (out .entry))) ⌝ }
+{
+    let answer = house::label(section);
+    wire::number(numbers::label(answer, house.len(), out))
+}
