@@ -70,7 +70,7 @@ static inline const char *timpanimist_refusal_words(uint32_t refusal) {
         "the first byte is not 0xFC, by which every cue starts",
         "section_syntax_indicator or private_indicator is 1",
         "section_length does not fit the bytes, or there are more than 4,096 of them",
-        "the CRC does not come out: a byte was damaged or lost",
+        "the CRC does not come out, so the bytes are not those that were sent",
         "protocol_version is not 0",
         "the section is encrypted and has fewer than 24 bytes",
         "the command breaks its grammar, or splice_command_length is not the length it has",

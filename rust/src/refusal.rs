@@ -70,7 +70,7 @@ const TOLD: [(&str, &str); 17] = [
     ),
     (
         "CRC",
-        "the CRC does not come out: a byte was damaged or lost",
+        "the CRC does not come out, so the bytes are not those that were sent",
     ),
     ("VERSION", "protocol_version is not 0"),
     (
