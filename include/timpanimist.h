@@ -282,7 +282,7 @@ uint64_t timpanimist_line(const uint8_t *text, size_t text_len, uint8_t *out, si
      back what the next one takes. TIMPANIMIST_LINE_TOO_LONG, or more, says that the line is too long already.
    - `carry`: memory of TIMPANIMIST_LONGEST_TEXT bytes at least, which stays as it is from turn to turn.
    - `out`: gets the answers of the lines that end in this input, whole lines. A line end is taken only while
-     TIMPANIMIST_LONGEST_LINE bytes are left of it; so lend more than that, or the stream does not move.
+     TIMPANIMIST_LONGEST_LINE bytes are left of it: with fewer than that, no line is ever answered.
    - `turn`: gets TIMPANIMIST_TURN numbers: `held` for the next turn, how many bytes of the input were taken, and how many
      bytes of `out` were written. Where fewer were taken than there are, `out` is full: write it out, and go on with the
      rest of the input.

@@ -75,39 +75,16 @@ mod tests {
         });
     }
 
+    /// By components, restricted, with a duration, a UPID of two bytes and sub-segments.
+    #[rustfmt::skip]
+    const SEGMENTATION: [u64; 27] = [
+        2, 31, 0x4355_4549, 8, 0, 127, 0, 1, 0, 1, 1, 1, 3, 1, 7, 127, 45, 90, 9, 2, 65, 66, 0x34, 1, 2, 3, 4,
+    ];
+    const AUDIO: [u64; 10] = [4, 10, 0x4355_4549, 1, 15, 1, 0x656E67, 2, 9, 1];
+
     #[test]
     fn descriptors() {
-        let segmentation = [
-            2,
-            31,
-            0x4355_4549,
-            8,
-            0,
-            127,
-            0,
-            1,
-            0,
-            1,
-            1,
-            1,
-            3,
-            1,
-            7,
-            127,
-            45,
-            90,
-            9,
-            2,
-            65,
-            66,
-            0x34,
-            1,
-            2,
-            3,
-            4,
-        ];
-        let audio = [4, 10, 0x4355_4549, 1, 15, 1, 0x656E67, 2, 9, 1];
-        let section = section(&[&[6, 1, 63, 9, 45], &segmentation[..], &audio].concat());
+        let section = section(&[&[6, 1, 63, 9, 45], &SEGMENTATION[..], &AUDIO].concat());
         most(MOST_KNOWN_COUNT, |out| ffi::known_count(&section, out));
         most(MOST_KNOWN_DESCRIPTOR, |out| {
             ffi::known_descriptor(&section, 0, out)

@@ -89,41 +89,21 @@ fn numbers_that_are_no_sheet() {
     assert_eq!(sheet(b"no section"), Err(Refusal::Short));
 }
 
+/// An insert of 255 components without a time, and 209 segmentation descriptors (docs/SHEET.md).
+#[rustfmt::skip]
+fn the_longest_sheet() -> Vec<u64> {
+    let header = [0xFC, 0, 0, 3, 0, 0, 0, 0, 0, 0xFFF, 0xFFF];
+    let insert = [5, 1, 0, 127, 1, 0, 0, 0, 15, 255];
+    let component = [7, 0, 127];
+    let avails_and_loop = [0, 0, 0, 209 * 17];
+    let descriptor = [2, 15, 0x4355_4549, 8, 0, 127, 1, 0, 0, 1, 1, 1, 3, 0, 0, 0x10, 0, 0];
+    let stuffing = [255; 2];
+    [&header[..], &insert, &component.repeat(255), &avails_and_loop, &descriptor.repeat(209), &stuffing].concat()
+}
+
 #[test]
 fn the_longest_sheet_fits() {
-    // one field a bit would be more than a sheet has: the longest is that of 255 components without
-    // a time and 209 segmentation descriptors
-    let mut numbers = vec![
-        0xFC, 0, 0, 3, 0, 0, 0, 0, 0, 0xFFF, 0xFFF, 5, 1, 0, 127, 1, 0, 0, 0, 15,
-    ];
-    numbers.push(255);
-    for tag in 0..255 {
-        numbers.extend([tag, 0, 127]);
-    }
-    numbers.extend([0, 0, 0, 209 * 17]);
-    for id in 0..209 {
-        numbers.extend([
-            2,
-            15,
-            0x4355_4549,
-            id,
-            0,
-            127,
-            1,
-            0,
-            0,
-            1,
-            1,
-            1,
-            3,
-            0,
-            0,
-            0x10,
-            0,
-            0,
-        ]);
-    }
-    numbers.extend([255; 2]);
+    let numbers = the_longest_sheet();
     let section = section_of_sheet(&numbers).unwrap();
     assert_eq!(
         (section.len(), numbers.len()),

@@ -58,37 +58,41 @@ fn print_segmentation(section: &[u8], n: usize, said: Segmentation) -> Result<()
         Duration::Absent => println!("  segmentation_duration absent"),
         Duration::Present(ticks) => println!("  segmentation_duration {}", measured(ticks)),
     }
+    let upid = upid(section, n)?;
     println!("  segmentation_upid_type {}", said.segmentation_upid_type);
     println!(
         "  segmentation_upid_length {}",
         said.segmentation_upid_length
     );
-    println!(
-        "  segmentation_upid{}",
-        spaced(upid(section, n)?.iter().copied())
-    );
+    println!("  segmentation_upid{}", spaced(upid.iter().copied()));
     println!("  segmentation_type_id 0x{:02x}", said.segmentation_type_id);
     println!("  segment_num {}", said.segment_num);
     println!("  segments_expected {}", said.segments_expected);
+    print_sub_segments(said.sub_segments);
+    segmentation_components(section, n)?.for_each(print_segmentation_component);
+    Ok(())
+}
+
+fn print_sub_segments(sub_segments: SubSegments) {
     if let SubSegments::Present {
         sub_segment_num,
         sub_segments_expected,
-    } = said.sub_segments
+    } = sub_segments
     {
         println!("  sub_segment_num {sub_segment_num}");
         println!("  sub_segments_expected {sub_segments_expected}");
     }
-    for component in segmentation_components(section, n)? {
-        let SegmentationComponent {
-            component_tag,
-            pts_offset,
-        } = component;
-        println!(
-            "  component_tag {component_tag}, pts_offset {}",
-            pts_offset.0
-        );
-    }
-    Ok(())
+}
+
+fn print_segmentation_component(component: SegmentationComponent) {
+    let SegmentationComponent {
+        component_tag,
+        pts_offset,
+    } = component;
+    println!(
+        "  component_tag {component_tag}, pts_offset {}",
+        pts_offset.0
+    );
 }
 
 fn print_delivery(delivery: Delivery) {
