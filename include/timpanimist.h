@@ -280,7 +280,7 @@ uint64_t timpanimist_line(const uint8_t *text, size_t text_len, uint8_t *out, si
 /* One turn over a stream of lines: `input` is what is at hand of it, cut anywhere.
    - `held`: how many characters of a cut line stand at the front of `carry`. A stream starts with 0, and each turn hands
      back what the next one takes. TIMPANIMIST_LINE_TOO_LONG, or more, says that the line is too long already.
-   - `carry`: memory of TIMPANIMIST_LONGEST_TEXT bytes at least, which stays as it is from turn to turn.
+   - `carry`: memory of TIMPANIMIST_LONGEST_TEXT bytes at least, which the caller keeps from turn to turn.
    - `out`: gets the answers of the lines that end in this input, whole lines. A line end is taken only while
      TIMPANIMIST_LONGEST_LINE bytes are left of it: with fewer than that, no line is ever answered.
    - `turn`: gets TIMPANIMIST_TURN numbers: `held` for the next turn, how many bytes of the input were taken, and how many
