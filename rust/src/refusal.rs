@@ -54,66 +54,25 @@ pub enum Refusal {
 const REFUSED: u64 = 1 << 63;
 
 /// The table's name and plain words of each refusal, in the order of [`Refusal::ALL`].
+#[rustfmt::skip]
 const TOLD: [(&str, &str); 17] = [
     ("SHORT", "the section has fewer than 20 bytes"),
-    (
-        "TABLE",
-        "the first byte is not 0xFC, by which every cue starts",
-    ),
-    (
-        "SYNTAX",
-        "section_syntax_indicator or private_indicator is 1",
-    ),
-    (
-        "SIZE",
-        "section_length does not fit the bytes, or there are more than 4,096 of them",
-    ),
-    (
-        "CRC",
-        "the CRC does not come out, so the bytes are not those that were sent",
-    ),
+    ("TABLE", "the first byte is not 0xFC, by which every cue starts"),
+    ("SYNTAX", "section_syntax_indicator or private_indicator is 1"),
+    ("SIZE", "section_length does not fit the bytes, or there are more than 4,096 of them"),
+    ("CRC", "the CRC does not come out, so the bytes are not those that were sent"),
     ("VERSION", "protocol_version is not 0"),
-    (
-        "CRYPT",
-        "the section is encrypted and has fewer than 24 bytes",
-    ),
-    (
-        "COMMAND",
-        "the command breaks its grammar, or splice_command_length is not the length it has",
-    ),
-    (
-        "LOOP",
-        "descriptor_loop_length, or the loop that it announces, does not fit before the CRC",
-    ),
-    (
-        "DESCRIPTOR",
-        "the descriptors do not fill their loop exactly, or one of them breaks its grammar",
-    ),
-    (
-        "ROOM",
-        "the answer is longer than the memory that was lent for it",
-    ),
-    (
-        "TEXTLEN",
-        "the text's length is not a multiple of 4, or is more than 5,464 characters",
-    ),
-    (
-        "TEXTCHAR",
-        "the text has a character outside the base64 alphabet, or padding before its end",
-    ),
-    (
-        "TEXTBITS",
-        "the spare bits before the text's padding are not zero",
-    ),
-    (
-        "SHEET",
-        "the numbers are not the field sheet of any section",
-    ),
+    ("CRYPT", "the section is encrypted and has fewer than 24 bytes"),
+    ("COMMAND", "the command breaks its grammar, or splice_command_length is not the length it has"),
+    ("LOOP", "descriptor_loop_length, or the loop that it announces, does not fit before the CRC"),
+    ("DESCRIPTOR", "the descriptors do not fill their loop exactly, or one of them breaks its grammar"),
+    ("ROOM", "the answer is longer than the memory that was lent for it"),
+    ("TEXTLEN", "the text's length is not a multiple of 4, or is more than 5,464 characters"),
+    ("TEXTCHAR", "the text has a character outside the base64 alphabet, or padding before its end"),
+    ("TEXTBITS", "the spare bits before the text's padding are not zero"),
+    ("SHEET", "the numbers are not the field sheet of any section"),
     ("NOTHERE", "there is no part of that number"),
-    (
-        "SEALED",
-        "the section is encrypted, so what is inside cannot be told",
-    ),
+    ("SEALED", "the section is encrypted, so what is inside cannot be told"),
 ];
 
 impl Refusal {
