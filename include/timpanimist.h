@@ -281,11 +281,11 @@ uint64_t timpanimist_line(const uint8_t *text, size_t text_len, uint8_t *out, si
    - `held`: how many characters of a cut line stand at the front of `carry`. A stream starts with 0, and each turn hands
      back what the next one takes. TIMPANIMIST_LINE_TOO_LONG, or more, says that the line is too long already.
    - `carry`: memory of TIMPANIMIST_LONGEST_TEXT bytes at least, which the caller keeps from turn to turn.
-   - `out`: gets the answers of the lines that end in this input, whole lines. A line end is taken only while
-     TIMPANIMIST_LONGEST_LINE bytes are left of it: with fewer than that, no line is ever answered.
+   - `out`: gets the answers of the lines that end in this input, whole lines. The turn stops before a line whose answer is
+     longer than what is left of it. TIMPANIMIST_LONGEST_LINE bytes are enough for the stream to move on.
    - `turn`: gets TIMPANIMIST_TURN numbers: `held` for the next turn, how many bytes of the input were taken, and how many
      bytes of `out` were written. Where fewer were taken than there are, `out` is full: write it out, and go on with the
-     rest of the input.
+     rest of the input. A last part without a newline is taken and held.
    Returns TIMPANIMIST_TURN. Refused by ROOM alone, where `carry` or `turn` is too short. */
 uint64_t timpanimist_lines(uint64_t held, const uint8_t *input, size_t input_len, uint8_t *carry, size_t carry_len,
                            uint8_t *out, size_t room, uint64_t *turn, size_t turn_len);

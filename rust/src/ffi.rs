@@ -1,6 +1,6 @@
 //! The archive's functions and a safe function around each. All unsafe code of this crate is here.
 //!
-//! Why the calls are sound, for all of them: the exports (`crates/exports/src/lib.rt`) ask nothing of
+//! Why the calls are sound, for all of them: the exports (`crates/exports*/src`) ask nothing of
 //! their caller but that each pointer and count name one live list, and that a list which is written
 //! overlaps no other. Each pointer and count below are those of one slice, which is borrowed for the
 //! whole call; a slice that is written comes by `&mut`, which overlaps nothing. No export keeps a pointer,

@@ -67,10 +67,11 @@ pub fn files(folder: &str, ending: &str) -> Vec<String> {
     found
 }
 
-/// The functions that the proved source exports.
+/// The functions that the proved source exports: those of every crate whose name starts with `exports`.
 pub fn exports() -> Functions {
     let mut found = Functions::new();
-    for file in files("crates/exports/src", "rt") {
+    let source = files("crates", "rt").into_iter();
+    for file in source.filter(|file| file.starts_with("crates/exports") && file.contains("/src/")) {
         let text = read(&file);
         let functions: Functions = text
             .split("pub extern \"C\" fn ")
