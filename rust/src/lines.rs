@@ -31,10 +31,15 @@ pub struct Lines {
 impl Lines {
     /// The start of a stream.
     pub fn new() -> Lines {
+        Lines::with_room(ROOM)
+    }
+
+    /// The same with room for so many bytes of answers, which is a line at least.
+    fn with_room(room: usize) -> Lines {
         Lines {
             held: 0,
             carry: vec![0; LONGEST_TEXT],
-            out: vec![0; ROOM],
+            out: vec![0; room],
         }
     }
 
@@ -65,5 +70,31 @@ impl Lines {
 impl Default for Lines {
     fn default() -> Lines {
         Lines::new()
+    }
+}
+
+#[cfg(test)]
+mod tests {
+    use super::*;
+    use crate::limits::LONGEST_LINE;
+    use crate::line;
+
+    /// A turn that stops for want of room, with and without something held, loses nothing.
+    #[test]
+    fn every_small_room_and_every_cut() {
+        let cue = b"/DA0AAAAAAAAAAAABQb+ADAQ6QAeAhxDVUVJQAAAO3/PAAEUrEoICAAAAAAg+2UBNAAANvrtoQ==";
+        let texts = [&cue[..], b"", b"AAAA", cue, b"x", b"", cue];
+        let stream = texts.join(&b'\n');
+        let expected: Vec<Line> = texts.iter().map(|text| line(text)).collect();
+        for room in LONGEST_LINE..LONGEST_LINE + 12 {
+            for piece in 1..=stream.len() {
+                let (mut lines, mut answers) = (Lines::with_room(room), Vec::new());
+                for piece in stream.chunks(piece) {
+                    lines.push(piece, |line| answers.push(line));
+                }
+                answers.extend(lines.finish());
+                assert_eq!(answers, expected, "room {room}, pieces of {piece}");
+            }
+        }
     }
 }
