@@ -1,9 +1,8 @@
 //! The command as a person meets it: what it prints and how it ends.
 
+use second::samples::TEXT_OF_004;
 use std::process::{Command, Output};
 
-const TEXT_OF_004: &str =
-    "/DA0AAAAAAAAAAAABQb+ADAQ6QAeAhxDVUVJQAAAO3/PAAEUrEoICAAAAAAg+2UBNAAANvrtoQ==";
 const SECTION_OF_004: &str = "fc30340000000000000000000506fe003010e9001e021c435545494000003b\
                               7fcf000114ac4a08080000000020fb650134000036faeda1";
 
