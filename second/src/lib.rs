@@ -4,6 +4,7 @@
 
 pub mod bits;
 pub mod crc;
+pub mod day;
 pub mod hex;
 pub mod house;
 pub mod lines;

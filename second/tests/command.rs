@@ -36,6 +36,25 @@ fn text_and_section_of_004() {
 }
 
 #[test]
+fn one_line_of_line_mode() {
+    answers(&["line", TEXT_OF_004], "A 201467");
+    answers(&["line", ""], "R 1");
+    answers(&["line", "AAAA\n"], "R 12");
+    answers(&["line-hex", "4141410a"], "R 13");
+    answers(&["line-hex", ""], "R 1");
+}
+
+/// What it prints is what ships; `tests/day.rs` says what that is.
+#[test]
+fn the_sample_day() {
+    let ships = include_str!("../../samples/day.txt");
+    assert_eq!(said(&["sample-day"]), (0, ships.to_string()));
+    let (status, table) = said(&["sample-day", "table"]);
+    assert_eq!(status, 0);
+    assert!(include_str!("../../samples/README.md").contains(&table));
+}
+
+#[test]
 fn an_accepted_section_is_listed() {
     let by_text = said(&["accept-text", TEXT_OF_004]);
     assert_eq!(by_text, said(&["accept", SECTION_OF_004]));
