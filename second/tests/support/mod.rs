@@ -4,6 +4,7 @@
 mod bench;
 pub mod built;
 pub mod counts;
+mod damage;
 mod fields;
 pub mod house;
 mod lent;
@@ -17,5 +18,6 @@ mod sheets;
 mod tally;
 
 pub use bench::Bench;
+pub use damage::damage;
 pub use fields::{fields, widths};
 pub use random::Random;
