@@ -38,10 +38,8 @@ pub fn crc32(bytes: &[u8]) -> u32 {
 #[cfg(test)]
 mod tests {
     use super::*;
+    use crate::samples::{RESTORED_TEXT_OF_003, TEXT_OF_004};
     use crate::text::text_to_section;
-
-    const TEXT_OF_004: &[u8] =
-        b"/DA0AAAAAAAAAAAABQb+ADAQ6QAeAhxDVUVJQAAAO3/PAAEUrEoICAAAAAAg+2UBNAAANvrtoQ==";
 
     #[test]
     fn known_figures() {
@@ -52,7 +50,7 @@ mod tests {
 
     #[test]
     fn the_section_of_004_carries_its_own_crc() {
-        let section = text_to_section(TEXT_OF_004, 55).unwrap();
+        let section = text_to_section(TEXT_OF_004.as_bytes(), 55).unwrap();
         assert_eq!(crc32(&section[..51]), 922_414_497);
         assert_eq!(section[51..], 922_414_497u32.to_be_bytes());
         assert_eq!(crc32(&section), 0);
@@ -60,8 +58,7 @@ mod tests {
 
     #[test]
     fn the_restored_first_text_of_003_carries_its_own_crc() {
-        let text = b"/DAhAAAAAAAAAP/wEAUAAAHAf+9/fgAg9YDAAAAAAAA25aoh";
-        let section = text_to_section(text, 36).unwrap();
+        let section = text_to_section(RESTORED_TEXT_OF_003.as_bytes(), 36).unwrap();
         assert_eq!(crc32(&section), 0);
     }
 
@@ -76,7 +73,7 @@ mod tests {
 
     #[test]
     fn one_bit_turned_over_changes_it() {
-        let section = text_to_section(TEXT_OF_004, 55).unwrap();
+        let section = text_to_section(TEXT_OF_004.as_bytes(), 55).unwrap();
         for place in 0..8 * section.len() {
             let mut other = section.clone();
             other[place / 8] ^= 0x80 >> (place % 8);

@@ -4,11 +4,14 @@
 
 pub mod bits;
 pub mod crc;
+pub mod day;
 pub mod hex;
 pub mod house;
 pub mod lines;
+pub mod made;
 pub mod reading;
 pub mod refusal;
+pub mod samples;
 pub mod section;
 pub mod sheet;
 pub mod text;

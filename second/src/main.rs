@@ -4,7 +4,7 @@
 #![forbid(unsafe_code)]
 
 use second::reading::{self, Reading};
-use second::{bits, crc, hex, house, lines, refusal, section, sheet, text, units};
+use second::{bits, crc, day, hex, house, lines, refusal, section, sheet, text, units};
 use std::fs::File;
 use std::io;
 use std::os::fd::AsFd;
@@ -32,6 +32,10 @@ usage: second accept HEX                       whether a section is accepted, an
        second label HEX HOUSE-HEX              its bill label, under this house name
        second numbers QUESTION HEX ..          the answer to one of these fifteen as a flat list
        second tally                            the breaks of texts on standard input, one a line
+       second line TEXT                        the line that tally writes for this text
+       second line-hex HEX                     the same, the text given as hex bytes
+       second sample-day                       the texts of the sample day, samples/day.txt
+       second sample-day table                 what each of them is, as in samples/README.md
        second to-section TEXT [ROOM]           the bytes of a base64 text
        second to-section-hex HEX [ROOM]        the same, the text given as hex bytes
        second to-text HEX [ROOM]               the base64 text of a section
@@ -111,10 +115,20 @@ fn answer(words: &[&[u8]]) -> Result<String, Failure> {
             let written = bits::write_field(&mut data, size(at)?, size(width)?, number(value)?);
             Ok(format!("{written} {}", hex::to_hex(&data)))
         }
+        [b"line", text] => Ok(lines::answer(text)),
+        [b"line-hex", text] => Ok(lines::answer(&bytes(text)?)),
+        [b"sample-day"] => Ok(without_last_newline(day::file())),
+        [b"sample-day", b"table"] => Ok(without_last_newline(day::table())),
         [b"numbers", typed_question @ ..] => Ok(joined(&typed(typed_question)?.numbers)),
         [] => Err(Failure::Usage("nothing is asked".to_string())),
         _ => Ok(typed(words)?.listing),
     }
+}
+
+/// What is printed has its last newline added.
+fn without_last_newline(mut lines: String) -> String {
+    lines.pop();
+    lines
 }
 
 /// The answer to a typed question, in both of its forms.

@@ -76,4 +76,4 @@ impl Clear {
 }
 
 #[cfg(test)]
-pub(crate) mod tests;
+mod tests;

@@ -1,9 +1,8 @@
 //! The command as a person meets it: what it prints and how it ends.
 
+use second::samples::TEXT_OF_004;
 use std::process::{Command, Output};
 
-const TEXT_OF_004: &str =
-    "/DA0AAAAAAAAAAAABQb+ADAQ6QAeAhxDVUVJQAAAO3/PAAEUrEoICAAAAAAg+2UBNAAANvrtoQ==";
 const SECTION_OF_004: &str = "fc30340000000000000000000506fe003010e9001e021c435545494000003b\
                               7fcf000114ac4a08080000000020fb650134000036faeda1";
 
@@ -34,6 +33,25 @@ fn text_and_section_of_004() {
     answers(&["to-section", TEXT_OF_004], SECTION_OF_004);
     answers(&["to-text", SECTION_OF_004], TEXT_OF_004);
     answers(&["crc", SECTION_OF_004], "0x00000000");
+}
+
+#[test]
+fn one_line_of_line_mode() {
+    answers(&["line", TEXT_OF_004], "A 201467");
+    answers(&["line", ""], "R 1");
+    answers(&["line", "AAAA\n"], "R 12");
+    answers(&["line-hex", "4141410a"], "R 13");
+    answers(&["line-hex", ""], "R 1");
+}
+
+/// What it prints is what ships; `tests/day.rs` says what that is.
+#[test]
+fn the_sample_day() {
+    let ships = include_str!("../../samples/day.txt");
+    assert_eq!(said(&["sample-day"]), (0, ships.to_string()));
+    let (status, table) = said(&["sample-day", "table"]);
+    assert_eq!(status, 0);
+    assert!(include_str!("../../samples/README.md").contains(&table));
 }
 
 #[test]

@@ -1,16 +1,11 @@
 //! Line mode as a program: what it reads, what it writes and how it ends.
 
 use second::lines::answers;
+use second::samples::{FIRST_TEXT_OF_003, SECOND_TEXT_OF_003, TEXT_OF_004};
 use std::fs::File;
 use std::io::{BufRead, BufReader, Write};
 use std::process::{Child, Command, Output, Stdio};
 use std::thread;
-
-const TEXT_OF_004: &str =
-    "/DA0AAAAAAAAAAAABQb+ADAQ6QAeAhxDVUVJQAAAO3/PAAEUrEoICAAAAAAg+2UBNAAANvrtoQ==";
-const FIRST_TEXT_OF_003: &str = "/DAhAAAAAAAAAP/wEAUAAAHAf9/fgAg9YDAAAAAAAA25aoh";
-const SECOND_TEXT_OF_003: &str =
-    "QW5vdGhlciB0ZXN0IHN0cmluZyBmb3IgZW5jb2RpbmcgdG8gQmFzZTY0IGVuY29kZWQgYmluYXJ5Lg==";
 
 fn line_mode() -> Command {
     let mut command = Command::new(env!("CARGO_BIN_EXE_second"));

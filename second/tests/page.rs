@@ -13,12 +13,10 @@ mod random;
 use built::{any_section, Size};
 use fields::fields;
 use random::{seed, Random};
+use second::samples::TEXT_OF_004;
 use second::sheet::sheet_of;
 use second::text::text_to_section;
 use std::collections::BTreeSet;
-
-const TEXT_OF_004: &str =
-    "/DA0AAAAAAAAAAAABQb+ADAQ6QAeAhxDVUVJQAAAO3/PAAEUrEoICAAAAAAg+2UBNAAANvrtoQ==";
 
 const PAGE: &str = include_str!("../../docs/SHEET.md");
 

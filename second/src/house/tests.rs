@@ -7,9 +7,9 @@ mod samples;
 mod times;
 
 use super::*;
+use crate::made::{finished, section};
 use crate::reading::{numbers, Reading};
 use crate::refusal::{COMMAND, CRC, DESCRIPTOR, LOOP, SEALED, SHORT, TABLE};
-use crate::section::tests::{finished, section};
 
 const CUEI: &str = "43554549";
 

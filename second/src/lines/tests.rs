@@ -7,14 +7,11 @@ mod pieces;
 mod samples;
 
 use super::*;
-use crate::section::tests::{finished, section};
+use crate::made::{finished, section, with_byte};
+use crate::samples::{
+    whole, FIRST_TEXT_OF_003, RESTORED_TEXT_OF_003, SECOND_TEXT_OF_003, TEXT_OF_004,
+};
 use crate::text::section_to_text;
-
-const TEXT_OF_004: &str =
-    "/DA0AAAAAAAAAAAABQb+ADAQ6QAeAhxDVUVJQAAAO3/PAAEUrEoICAAAAAAg+2UBNAAANvrtoQ==";
-const FIRST_TEXT_OF_003: &str = "/DAhAAAAAAAAAP/wEAUAAAHAf9/fgAg9YDAAAAAAAA25aoh";
-const SECOND_TEXT_OF_003: &str =
-    "QW5vdGhlciB0ZXN0IHN0cmluZyBmb3IgZW5jb2RpbmcgdG8gQmFzZTY0IGVuY29kZWQgYmluYXJ5Lg==";
 
 fn text(section: &[u8]) -> String {
     String::from_utf8(section_to_text(section, usize::MAX).unwrap()).unwrap()

@@ -10,7 +10,7 @@ mod segmentations;
 mod upids;
 
 use super::*;
-use crate::section::tests::section;
+use crate::made::section;
 
 /// Numbers that are past the count of any list, some of them small in their low bits.
 const FAR: [u64; 6] = [5000, 1 << 16, 1 << 32, (1 << 32) + 1, 1 << 63, u64::MAX];
@@ -52,7 +52,7 @@ fn sealed() -> Vec<u8> {
     let mut bytes = section(1, inside);
     bytes.truncate(bytes.len() - 4);
     bytes[4] |= 0x80;
-    crate::section::tests::finished(bytes)
+    crate::made::finished(bytes)
 }
 
 /// The flat list of an answer.

@@ -3,6 +3,7 @@
 use super::*;
 use crate::crc::crc32;
 use crate::refusal::{CRC, SHORT, TABLE};
+use crate::samples::TEXT_OF_004;
 use crate::text::text_to_section;
 
 const SHEET_OF_004: [u64; 43] = [
@@ -39,8 +40,7 @@ fn is_none(sheet: &[u64]) {
 }
 
 fn section_of_004() -> Vec<u8> {
-    let text = "/DA0AAAAAAAAAAAABQb+ADAQ6QAeAhxDVUVJQAAAO3/PAAEUrEoICAAAAAAg+2UBNAAANvrtoQ==";
-    text_to_section(text.as_bytes(), 55).unwrap()
+    text_to_section(TEXT_OF_004.as_bytes(), 55).unwrap()
 }
 
 #[test]

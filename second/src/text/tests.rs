@@ -1,9 +1,8 @@
 //! Facts about the text reader and writer, from the papers and from RFC 4648 section 10.
 
 use super::*;
+use crate::samples::{FIRST_TEXT_OF_003, RESTORED_TEXT_OF_003, SECOND_TEXT_OF_003, TEXT_OF_004};
 
-const TEXT_OF_004: &str =
-    "/DA0AAAAAAAAAAAABQb+ADAQ6QAeAhxDVUVJQAAAO3/PAAEUrEoICAAAAAAg+2UBNAAANvrtoQ==";
 const PLENTY: usize = 10_000;
 
 fn read(text: &str) -> Result<Vec<u8>, u8> {
@@ -37,17 +36,16 @@ fn the_text_of_004_is_a_section_of_55_bytes() {
 
 #[test]
 fn the_texts_of_003() {
-    let lost = "/DAhAAAAAAAAAP/wEAUAAAHAf9/fgAg9YDAAAAAAAA25aoh";
-    assert_eq!(lost.len(), 47);
-    assert_eq!(read(lost), Err(TEXTLEN));
+    assert_eq!(FIRST_TEXT_OF_003.len(), 47);
+    assert_eq!(read(FIRST_TEXT_OF_003), Err(TEXTLEN));
 
-    let restored = lost.replace("AAAHAf", "AAAHAf+");
+    let restored = FIRST_TEXT_OF_003.replace("AAAHAf", "AAAHAf+");
+    assert_eq!(restored, RESTORED_TEXT_OF_003);
     assert_eq!(restored.len(), 48);
     assert_eq!(read(&restored).unwrap().len(), 36);
 
-    let prose = "QW5vdGhlciB0ZXN0IHN0cmluZyBmb3IgZW5jb2RpbmcgdG8gQmFzZTY0IGVuY29kZWQgYmluYXJ5Lg==";
     let bytes = "Another test string for encoding to Base64 encoded binary.";
-    assert_eq!(read(prose), Ok(bytes.into()));
+    assert_eq!(read(SECOND_TEXT_OF_003), Ok(bytes.into()));
 }
 
 #[test]

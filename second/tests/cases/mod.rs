@@ -5,6 +5,7 @@ mod crc;
 mod damaged;
 mod fields;
 mod house;
+mod lines;
 mod pairs;
 mod published;
 mod reading;

@@ -1,53 +1,49 @@
-//! The samples that the papers print, as they print them, copying faults included.
+//! The samples that the papers print, as they print them, copying faults included, and restored.
 
 use crate::support::Bench;
 use second::refusal::TEXTLEN;
+use second::samples::{Sample, Text, PUBLISHED};
 
 const PLENTY: usize = 6000;
 
-/// Sections that came through whole: their CRC is right.
-pub const WHOLE: [&str; 5] = [
-    // 004
-    "/DA0AAAAAAAAAAAABQb+ADAQ6QAeAhxDVUVJQAAAO3/PAAEUrEoICAAAAAAg+2UBNAAANvrtoQ==",
-    // 003, the first text, its lost `+` restored
-    "/DAhAAAAAAAAAP/wEAUAAAHAf+9/fgAg9YDAAAAAAAA25aoh",
-    // 002
-    "/DAvAAAAAAAA///wBQb+dGKQoAAZAhdDVUVJSAAAjn+fCAgAAAAALKChijUCAKnMZ1g=",
-    "/DAvAAAAAAAA///wBQb+rr//ZAAZAhdDVUVJSAAACH+fCAgAAAAALKVs9RcAAJUdsKg=",
-    "/DAvAAAAAAAA///wBQb+rvF8TAAZAhdDVUVJSAAAB3+fCAgAAAAALKVslxEAAMSHai4=",
-];
+/// Every text of the samples, as printed and as restored, with what line mode answers to it.
+fn texts() -> impl Iterator<Item = &'static Text> {
+    let samples = PUBLISHED.iter();
+    samples.flat_map(|sample| std::iter::once(&sample.printed).chain(&sample.restored))
+}
+
+/// Those that are sections with a right CRC, 004's first.
+pub fn whole() -> Vec<&'static str> {
+    let whole = PUBLISHED.iter().rev().filter_map(Sample::whole);
+    whole.collect()
+}
 
 /// Good base64, but what it holds is not a section with a right CRC.
-pub const DAMAGED: [&str; 5] = [
-    // 000
-    "/DAgAAAAAAAAAAP/wDwUAAAL4f//+ABoXsMAAAAAAAAAAPF20V0=",
-    // 002
-    "/DA0AAAAAAAA///wBQb+cr0AUAAeAhxDVUVJSAAAjn/PAAGImbAICAAAAAAsoKGKNAIAmsnRfg==",
-    "/DBIAAAAAAAA///wBQb+ek2ltgAyAhdDVUVJSAAAGH+fCAgAAAAALMvDRBEAAAIXQ1VFSUgAABI/nwgIAAAAACyk26AQAACZcuND",
-    "/DBIAAAAAAAA///wBQb+ky44CwAyAhdDVUVJSAAACn+fCAgAAAAALKCh4xgAAAIXQ1VFSUgAAAI/nwgIAAAAACygoYoRAAC0IX6w",
-    // 003, the second text
-    "QW5vdGhlciB0ZXN0IHN0cmluZyBmb3IgZW5jb2RpbmcgdG8gQmFzZTY0IGVuY29kZWQgYmluYXJ5Lg==",
-];
+pub fn damaged() -> Vec<&'static str> {
+    let damaged = texts().filter(|text| ["R 2", "R 4", "R 5"].contains(&text.answer));
+    damaged.map(|text| text.text).collect()
+}
 
 /// Characters were lost or added, so the length gives them away.
-const MISCOUNTED: [&str; 4] = [
-    // 001
-    "/DAgAAAAAAAAAAP/wDwUAAAL4f//+ABoXsMAAAAAAAPF20V0=",
-    // 002
-    "/DAvAAAAAAAA///wFAVIAACPf+/+c2nALv4AUsz1AAAAAAAAAAAAADVUVJAAABNWLbowo=",
-    "/DBhAAAAAAAA///wBQb+qM1E7QBLAhdDVUVJSAAArX+fCAgAAAAALLLXnTUCAAIXQ1VFSUgAACZ/nwgIAAAAAACyy150RAAACF0NVRUIIAAAnf58 ICAAAAAAsstezEAAAihiGnw==",
-    // 003, the first text
-    "/DAhAAAAAAAAAP/wEAUAAAHAf9/fgAg9YDAAAAAAAA25aoh",
-];
+fn miscounted() -> Vec<&'static str> {
+    let miscounted = texts().filter(|text| text.answer == "R 12");
+    miscounted.map(|text| text.text).collect()
+}
+
+#[test]
+fn there_are_samples_of_each_sort() {
+    let counts = [whole().len(), damaged().len(), miscounted().len()];
+    assert_eq!(counts, [12, 5, 4]);
+}
 
 #[test]
 fn samples_are_read_and_written_back() {
     let mut bench = Bench::new();
-    for text in WHOLE.iter().chain(&DAMAGED) {
+    for text in whole().into_iter().chain(damaged()) {
         let section = bench.text_to_section(text.as_bytes(), PLENTY).unwrap();
         let back = bench.section_to_text(&section, PLENTY).unwrap();
         assert_eq!(back, text.as_bytes());
-        let is_whole = WHOLE.contains(text);
+        let is_whole = whole().contains(&text);
         assert_eq!(bench.crc32(&section) == 0, is_whole, "{text}");
     }
 }
@@ -55,7 +51,7 @@ fn samples_are_read_and_written_back() {
 #[test]
 fn miscounted_samples_are_refused() {
     let mut bench = Bench::new();
-    for text in MISCOUNTED {
+    for text in miscounted() {
         let answer = bench.text_to_section(text.as_bytes(), PLENTY);
         assert_eq!(answer, Err(TEXTLEN), "{text}");
     }

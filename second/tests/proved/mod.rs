@@ -2,6 +2,7 @@
 //! Inputs are taken as `&mut` so that a test can see whether the library leaves them alone.
 
 pub mod house;
+pub mod lines;
 pub mod readings;
 
 #[link(name = "timpanimist", kind = "static")]

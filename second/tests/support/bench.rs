@@ -3,6 +3,7 @@
 
 use super::counts::Counts;
 use super::lent::{Cell, Lent};
+use super::lines::Asked;
 use super::met::Met;
 use super::random::{seed, Random};
 use super::report::{pasted_text, same_answer, same_memory, AcceptAnswer, CountAnswer, CrcAnswer};
@@ -23,12 +24,21 @@ pub struct Bench {
     pub met: Met,
     /// How often each house answer was given.
     pub house: Counts,
+    /// How often each answer line was given, and each sort of turn over a stream.
+    pub lines: Counts,
+    /// How many texts, turns and streams were asked.
+    pub asked: Asked,
 }
 
 impl Bench {
     /// A bench with the random numbers of this run's seed, which it prints.
     pub fn new() -> Bench {
         println!("seed {:#018x}", seed());
+        Bench::silent()
+    }
+
+    /// The same, without a word.
+    pub fn silent() -> Bench {
         Bench {
             random: Random::new(seed()),
             tally: Tally::default(),
@@ -36,6 +46,8 @@ impl Bench {
             to_section: Tally::default(),
             met: Met::default(),
             house: Counts::default(),
+            lines: Counts::default(),
+            asked: Asked::default(),
         }
     }
 

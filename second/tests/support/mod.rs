@@ -4,18 +4,26 @@
 mod bench;
 pub mod built;
 pub mod counts;
+mod damage;
 mod fields;
+pub mod files;
 pub mod house;
 mod lent;
+pub mod lines;
 mod met;
+pub mod programs;
 pub mod questions;
-mod random;
+pub mod random;
 mod readings;
 mod report;
 mod rooms;
+pub mod round;
 mod sheets;
+pub mod stream;
 mod tally;
+pub mod texts;
 
 pub use bench::Bench;
+pub use damage::damage;
 pub use fields::{fields, widths};
 pub use random::Random;

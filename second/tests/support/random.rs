@@ -1,5 +1,6 @@
 //! A small generator of random numbers (splitmix64) and the seed of this run.
 
+use std::cell::Cell;
 use std::ops::RangeInclusive;
 use std::sync::OnceLock;
 use std::time::{SystemTime, UNIX_EPOCH};
@@ -63,8 +64,23 @@ impl Random {
     }
 }
 
-/// The seed of this run: TIMPANIMIST_SEED where it is set, otherwise from the system clock.
+thread_local! {
+    /// The seed of the round that this thread is in, where a run is made of rounds.
+    static ROUND: Cell<Option<u64>> = const { Cell::new(None) };
+}
+
+/// From here on, this is the seed in this thread.
+pub fn start_round(seed: u64) {
+    ROUND.set(Some(seed));
+}
+
+/// The seed of the round or else of this run: TIMPANIMIST_SEED where it is set, otherwise from the
+/// system clock.
 pub fn seed() -> u64 {
+    ROUND.get().unwrap_or_else(seed_of_run)
+}
+
+fn seed_of_run() -> u64 {
     static SEED: OnceLock<u64> = OnceLock::new();
     *SEED.get_or_init(|| match std::env::var("TIMPANIMIST_SEED") {
         Ok(given) => parsed(&given).unwrap_or_else(|| {
@@ -77,7 +93,8 @@ pub fn seed() -> u64 {
     })
 }
 
-fn parsed(given: &str) -> Option<u64> {
+/// A number, or `0x` and hex digits.
+pub fn parsed(given: &str) -> Option<u64> {
     match given.strip_prefix("0x") {
         Some(digits) => u64::from_str_radix(digits, 16).ok(),
         None => given.parse().ok(),

@@ -2,6 +2,7 @@
 
 use super::*;
 use crate::reading::{command, Command};
+use crate::samples::{whole, RESTORED_TEXT_OF_003, TEXT_OF_004};
 use crate::text::text_to_section;
 use crate::units::ticks_to_millis;
 
@@ -13,8 +14,7 @@ fn sample(text: &str) -> Vec<u8> {
 
 #[test]
 fn the_cue_of_004() {
-    let section =
-        sample("/DA0AAAAAAAAAAAABQb+ADAQ6QAeAhxDVUVJQAAAO3/PAAEUrEoICAAAAAAg+2UBNAAANvrtoQ==");
+    let section = sample(TEXT_OF_004);
     let ticks = 18_132_042;
     assert_eq!(break_answer(&section), Ok(Break::Measured { ticks }));
     assert_eq!(ticks_to_millis(ticks), 201_467);
@@ -30,7 +30,7 @@ fn the_cue_of_004() {
 
 #[test]
 fn the_restored_first_text_of_003() {
-    let section = sample("/DAhAAAAAAAAAP/wEAUAAAHAf+9/fgAg9YDAAAAAAAA25aoh");
+    let section = sample(RESTORED_TEXT_OF_003);
     assert_eq!(section.len(), 36);
     let Ok(Command::Insert(insert)) = command(&section) else {
         panic!("an insert");
@@ -48,18 +48,9 @@ fn the_restored_first_text_of_003() {
 #[test]
 fn the_sections_of_002_clauses_14_3_14_5_and_14_7() {
     let samples = [
-        (
-            "/DAvAAAAAAAA///wBQb+dGKQoAAZAhdDVUVJSAAAjn+fCAgAAAAALKChijUCAKnMZ1g=",
-            0x7462_90A0,
-        ),
-        (
-            "/DAvAAAAAAAA///wBQb+rr//ZAAZAhdDVUVJSAAACH+fCAgAAAAALKVs9RcAAJUdsKg=",
-            0xAEBF_FF64,
-        ),
-        (
-            "/DAvAAAAAAAA///wBQb+rvF8TAAZAhdDVUVJSAAAB3+fCAgAAAAALKVslxEAAMSHai4=",
-            0xAEF1_7C4C,
-        ),
+        (whole("002, 14.3"), 0x7462_90A0),
+        (whole("002, 14.5"), 0xAEBF_FF64),
+        (whole("002, 14.7"), 0xAEF1_7C4C),
     ];
     for (text, ticks) in samples {
         let section = sample(text);

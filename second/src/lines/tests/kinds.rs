@@ -9,13 +9,6 @@ fn insert(flags: &str, behind: &str) -> Vec<u8> {
     section(length as u16, &format!("05 {command} 0000"))
 }
 
-/// The section with this byte changed, and its CRC put right.
-fn with_byte(section: &[u8], at: usize, byte: u8) -> Vec<u8> {
-    let mut bytes = section[..section.len() - 4].to_vec();
-    bytes[at] = byte;
-    finished(bytes)
-}
-
 fn sections() -> Vec<(Vec<u8>, &'static str)> {
     let null = section(0, "00 0000");
     let stuffed = section(0, "00 0000 01020304");

@@ -13,17 +13,13 @@ fn the_three_lines_of_01() {
 
 #[test]
 fn the_restored_first_text_of_003() {
-    let text = b"/DAhAAAAAAAAAP/wEAUAAAHAf+9/fgAg9YDAAAAAAAA25aoh";
-    assert_eq!(answer(text), "A 24000");
+    let text = RESTORED_TEXT_OF_003;
+    assert_eq!(answer(text.as_bytes()), "A 24000");
 }
 
 #[test]
 fn the_sections_of_002_clauses_14_3_14_5_and_14_7() {
-    let texts = [
-        "/DAvAAAAAAAA///wBQb+dGKQoAAZAhdDVUVJSAAAjn+fCAgAAAAALKChijUCAKnMZ1g=",
-        "/DAvAAAAAAAA///wBQb+rr//ZAAZAhdDVUVJSAAACH+fCAgAAAAALKVs9RcAAJUdsKg=",
-        "/DAvAAAAAAAA///wBQb+rvF8TAAZAhdDVUVJSAAAB3+fCAgAAAAALKVslxEAAMSHai4=",
-    ];
+    let texts = [whole("002, 14.3"), whole("002, 14.5"), whole("002, 14.7")];
     for text in texts {
         assert_eq!(answer(text.as_bytes()), "N");
     }

@@ -1,8 +1,8 @@
 //! The order of refusals: rows 1 to 10, then SEALED, then NOTHERE, at every question.
 
 use super::*;
+use crate::made::finished;
 use crate::refusal::{COMMAND, CRC, CRYPT, DESCRIPTOR, LOOP, SHORT, SIZE, SYNTAX, TABLE, VERSION};
-use crate::section::tests::finished;
 
 /// The refusal of every question, asked with small numbers and with numbers past any count.
 fn refused(section: &[u8], expected: u8) {

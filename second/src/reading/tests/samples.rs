@@ -1,6 +1,7 @@
 //! The published samples: 004's cue, 003's first with its lost `+` restored, and three of 002.
 
 use super::*;
+use crate::samples::{whole, RESTORED_TEXT_OF_003, TEXT_OF_004};
 use crate::text::text_to_section;
 
 fn sample(text: &str) -> Vec<u8> {
@@ -9,8 +10,7 @@ fn sample(text: &str) -> Vec<u8> {
 
 #[test]
 fn the_cue_of_004() {
-    let section =
-        sample("/DA0AAAAAAAAAAAABQb+ADAQ6QAeAhxDVUVJQAAAO3/PAAEUrEoICAAAAAAg+2UBNAAANvrtoQ==");
+    let section = sample(TEXT_OF_004);
     let signal = Command::TimeSignal(Time::Given(3_150_057));
     assert_eq!(command(&section), Ok(signal));
     assert_eq!(flat(command(&section)), Ok(vec![4, 2, 3_150_057]));
@@ -59,7 +59,7 @@ fn the_cue_of_004() {
 
 #[test]
 fn the_restored_first_text_of_003() {
-    let section = sample("/DAhAAAAAAAAAP/wEAUAAAHAf+9/fgAg9YDAAAAAAAA25aoh");
+    let section = sample(RESTORED_TEXT_OF_003);
     let insert = Command::Insert(Insert {
         splice_event_id: 448,
         out_of_network_indicator: true,
@@ -86,15 +86,15 @@ fn the_sections_of_002_clauses_14_3_14_5_and_14_7() {
     // Text; time, event, UPID as one number, type, segment_num.
     let samples = [
         (
-            "/DAvAAAAAAAA///wBQb+dGKQoAAZAhdDVUVJSAAAjn+fCAgAAAAALKChijUCAKnMZ1g=",
+            whole("002, 14.3"),
             (0x7462_90A0, 0x4800_008E, 0x2CA0_A18A, 0x35, 2),
         ),
         (
-            "/DAvAAAAAAAA///wBQb+rr//ZAAZAhdDVUVJSAAACH+fCAgAAAAALKVs9RcAAJUdsKg=",
+            whole("002, 14.5"),
             (0xAEBF_FF64, 0x4800_0008, 0x2CA5_6CF5, 0x17, 0),
         ),
         (
-            "/DAvAAAAAAAA///wBQb+rvF8TAAZAhdDVUVJSAAAB3+fCAgAAAAALKVslxEAAMSHai4=",
+            whole("002, 14.7"),
             (0xAEF1_7C4C, 0x4800_0007, 0x2CA5_6C97, 0x11, 0),
         ),
     ];

@@ -1,6 +1,7 @@
 //! The published samples that came through whole, and 003's with its lost `+` restored.
 
 use super::*;
+use crate::samples::{whole, RESTORED_TEXT_OF_003, TEXT_OF_004};
 use crate::text::text_to_section;
 
 fn sample(text: &str) -> Section {
@@ -95,7 +96,6 @@ fn signal(header: Header, time: u64, event: u32, segment: Segment, crc_32: u32) 
 
 #[test]
 fn the_text_of_004() {
-    let text = "/DA0AAAAAAAAAAAABQb+ADAQ6QAeAhxDVUVJQAAAO3/PAAEUrEoICAAAAAAg+2UBNAAANvrtoQ==";
     let segment = segment(false, Some(18_132_042), 0x20FB_6501, (52, 0));
     let expected = signal(
         header(52, (0, 0), 5),
@@ -104,12 +104,12 @@ fn the_text_of_004() {
         segment,
         922_414_497,
     );
-    assert_eq!(sample(text), expected);
+    assert_eq!(sample(TEXT_OF_004), expected);
 }
 
 #[test]
 fn the_restored_first_text_of_003() {
-    let section = sample("/DAhAAAAAAAAAP/wEAUAAAHAf+9/fgAg9YDAAAAAAAA25aoh");
+    let section = sample(RESTORED_TEXT_OF_003);
     assert_eq!(section.header, header(33, (0, 0xFFF), 16));
     let splicing = Splicing {
         out_of_network_indicator: true,
@@ -150,11 +150,7 @@ fn the_restored_first_text_of_003() {
 
 #[test]
 fn the_sections_of_002_clauses_14_3_14_5_and_14_7() {
-    let texts = [
-        "/DAvAAAAAAAA///wBQb+dGKQoAAZAhdDVUVJSAAAjn+fCAgAAAAALKChijUCAKnMZ1g=",
-        "/DAvAAAAAAAA///wBQb+rr//ZAAZAhdDVUVJSAAACH+fCAgAAAAALKVs9RcAAJUdsKg=",
-        "/DAvAAAAAAAA///wBQb+rvF8TAAZAhdDVUVJSAAAB3+fCAgAAAAALKVslxEAAMSHai4=",
-    ];
+    let texts = [whole("002, 14.3"), whole("002, 14.5"), whole("002, 14.7")];
     // Time, event, UPID, type with segment_num, CRC.
     let decoded = [
         (
@@ -188,7 +184,7 @@ fn the_sections_of_002_clauses_14_3_14_5_and_14_7() {
 
 #[test]
 fn the_listing_of_003() {
-    let section = sample("/DAhAAAAAAAAAP/wEAUAAAHAf+9/fgAg9YDAAAAAAAA25aoh");
+    let section = sample(RESTORED_TEXT_OF_003);
     let expected = "\
 table_id: 252 (0xfc)
 section_syntax_indicator: 0

@@ -1,9 +1,10 @@
 //! The samples that the papers print; of 004's cue and of 003's first text the figures of 01.
 
-use crate::cases::published::{DAMAGED, WHOLE};
+use crate::cases::published::{damaged, whole};
 use crate::support::built::with_length_and_crc;
 use crate::support::house::{BREAK, DVB, EFFECTIVE_TIME};
 use crate::support::Bench;
+use second::samples::{RESTORED_TEXT_OF_003, TEXT_OF_004};
 use second::text::text_to_section;
 
 const HOUSE_NAME: &[u8] = b"a house name";
@@ -11,10 +12,10 @@ const HOUSE_NAME: &[u8] = b"a house name";
 pub fn samples(bench: &mut Bench) {
     the_cue_of_004(bench);
     the_restored_first_text_of_003(bench);
-    for text in WHOLE {
+    for text in whole() {
         bench.ask_house(&sample(text));
     }
-    for text in DAMAGED {
+    for text in damaged() {
         bench.ask_house(&sample(text));
         bench.ask_house(&with_length_and_crc(&sample(text)));
     }
@@ -25,7 +26,7 @@ fn sample(text: &str) -> Vec<u8> {
 }
 
 fn the_cue_of_004(bench: &mut Bench) {
-    let section = sample(WHOLE[0]);
+    let section = sample(TEXT_OF_004);
     assert_eq!(bench.house_answer(&BREAK, &section), Ok(vec![1, 18132042]));
     assert_eq!(bench.ticks_to_millis(18132042), 201467);
     let time = bench.house_answer(&EFFECTIVE_TIME, &section);
@@ -35,7 +36,7 @@ fn the_cue_of_004(bench: &mut Bench) {
 }
 
 fn the_restored_first_text_of_003(bench: &mut Bench) {
-    let section = sample(WHOLE[1]);
+    let section = sample(RESTORED_TEXT_OF_003);
     assert_eq!(bench.house_answer(&BREAK, &section), Ok(vec![1, 2160000]));
     assert_eq!(bench.ticks_to_millis(2160000), 24000);
     let time = bench.house_answer(&EFFECTIVE_TIME, &section);

@@ -1,7 +1,7 @@
 //! 004's cue with the sheet that 01 prints for it, and the other samples of the papers.
 
 use super::{back, there, there_and_back};
-use crate::cases::published::{DAMAGED, WHOLE};
+use crate::cases::published::{damaged, whole};
 use crate::support::built::with_length_and_crc;
 use crate::support::Bench;
 use second::refusal::{CRC, ROOM, SIZE, TABLE};
@@ -43,11 +43,11 @@ fn the_cue_of_004() {
 #[test]
 fn samples() {
     let mut bench = Bench::new();
-    for text in WHOLE {
+    for text in whole() {
         let section = text_to_section(text.as_bytes(), 4096).unwrap();
         there_and_back(&mut bench, &section);
     }
-    for text in DAMAGED {
+    for text in damaged() {
         let section = text_to_section(text.as_bytes(), 4096).unwrap();
         let row = there(&mut bench, &section);
         assert!([TABLE, SIZE, CRC].contains(&row), "{text}: {row}");

@@ -1,0 +1,134 @@
+//! The long comparison of lines: rounds of random cues, each with a seed of its own, through the
+//! archive's line functions and, now and then, through both programs. `second/long` starts it.
+
+#[allow(dead_code, unused_imports)]
+mod proved;
+#[allow(dead_code, unused_imports)]
+mod support;
+
+use std::panic::catch_unwind;
+use std::process::ExitCode;
+use std::sync::atomic::{AtomicU64, Ordering};
+use std::sync::Mutex;
+use std::thread;
+use std::time::Instant;
+use support::random::{parsed, seed, Random};
+use support::round::{round, Done};
+
+/// How many cues are asked where it is not said.
+const CUES: u64 = 1_000_000;
+
+/// How many of them one round has; with so few, a run is one round.
+const CUES_OF_A_ROUND: u64 = 500;
+
+/// A round in so many goes through both programs too.
+const ROUNDS_OF_A_FILE: u64 = 20;
+
+/// After so many rounds a line tells how far it is.
+const ROUNDS_OF_A_LINE: u64 = 400;
+
+fn main() -> ExitCode {
+    let words: Vec<String> = std::env::args().skip(1).collect();
+    let Some((seed, cues)) = wanted(&words) else {
+        eprintln!("usage: second/long [SEED] [CUES]");
+        return ExitCode::from(2);
+    };
+    let run = Run::new(seed, cues);
+    println!(
+        "seed {seed:#018x}: {} rounds of {CUES_OF_A_ROUND} cues",
+        run.rounds
+    );
+    let threads = thread::available_parallelism().map_or(1, |threads| threads.get());
+    thread::scope(|scope| {
+        for _ in 0..threads {
+            scope.spawn(|| run.work());
+        }
+    });
+    run.report()
+}
+
+/// The seed and the count of cues.
+fn wanted(words: &[String]) -> Option<(u64, u64)> {
+    match words {
+        [] => Some((seed(), CUES)),
+        [seed] => Some((parsed(seed)?, CUES)),
+        [seed, cues] => Some((parsed(seed)?, parsed(cues)?)),
+        _ => None,
+    }
+}
+
+struct Run {
+    seed: u64,
+    rounds: u64,
+    next: AtomicU64,
+    sums: Mutex<Sums>,
+    start: Instant,
+}
+
+#[derive(Default)]
+struct Sums {
+    rounds: u64,
+    done: Done,
+    /// The seeds of the rounds that found one.
+    differences: Vec<u64>,
+}
+
+impl Run {
+    fn new(seed: u64, cues: u64) -> Run {
+        Run {
+            seed,
+            rounds: cues.div_ceil(CUES_OF_A_ROUND),
+            next: AtomicU64::new(0),
+            sums: Mutex::default(),
+            start: Instant::now(),
+        }
+    }
+
+    /// Takes round after round until there is none left. A round ends with its first difference.
+    fn work(&self) {
+        loop {
+            let number = self.next.fetch_add(1, Ordering::Relaxed);
+            if number >= self.rounds {
+                return;
+            }
+            let seed = seed_of_round(self.seed, number);
+            let file = number.is_multiple_of(ROUNDS_OF_A_FILE);
+            let result = catch_unwind(|| round(seed, CUES_OF_A_ROUND, file));
+            let mut sums = self.sums.lock().expect("no thread ended badly");
+            sums.rounds += 1;
+            match result {
+                Ok(done) => sums.done.add(&done),
+                Err(_) => sums.differences.push(seed),
+            }
+            if sums.rounds.is_multiple_of(ROUNDS_OF_A_LINE) {
+                let (rounds, differences) = (sums.rounds, sums.differences.len());
+                let seconds = self.start.elapsed().as_secs();
+                println!("{rounds} rounds, {seconds} s, differences so far: {differences}");
+            }
+        }
+    }
+
+    /// Prints the sums; the last line says how many differences there were.
+    fn report(self) -> ExitCode {
+        let seconds = self.start.elapsed().as_secs();
+        let sums = self.sums.into_inner().expect("no thread ended badly");
+        println!("{}", sums.done.told());
+        println!("{seconds} s, seed {:#018x}", self.seed);
+        for seed in &sums.differences {
+            println!("a difference, again with: second/long {seed:#018x} {CUES_OF_A_ROUND}");
+        }
+        println!("differences found: {}", sums.differences.len());
+        match sums.differences.is_empty() {
+            true => ExitCode::SUCCESS,
+            false => ExitCode::FAILURE,
+        }
+    }
+}
+
+/// The first round has the seed of the run, so that each can be run alone.
+fn seed_of_round(seed: u64, number: u64) -> u64 {
+    match number {
+        0 => seed,
+        _ => Random::new(seed ^ number.rotate_left(32)).number(),
+    }
+}

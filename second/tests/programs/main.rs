@@ -1,0 +1,55 @@
+//! Whole files through both programs, and how the proved program reads, writes and ends.
+//! Where it does not run, `compare` puts the same files through the archive's functions.
+
+mod ends;
+mod memory;
+mod pipes;
+mod whole;
+
+#[allow(dead_code, unused_imports)]
+#[path = "../support/built/mod.rs"]
+mod built;
+#[path = "../support/damage.rs"]
+mod damage;
+#[path = "../support/files.rs"]
+mod files;
+#[path = "../support/programs.rs"]
+mod programs;
+#[allow(dead_code)]
+#[path = "../support/random.rs"]
+mod random;
+#[allow(dead_code)]
+#[path = "../support/texts.rs"]
+mod texts;
+
+use random::{seed, Random};
+use std::process::Output;
+
+fn random() -> Random {
+    println!("seed {:#018x}", seed());
+    Random::new(seed())
+}
+
+/// It ended well and told nothing on standard error: what it wrote.
+fn written(output: Output) -> Vec<u8> {
+    let told = String::from_utf8_lossy(&output.stderr);
+    assert_eq!(told, "", "this stands on standard error");
+    assert!(output.status.success(), "{}", output.status);
+    output.stdout
+}
+
+/// Both wrote the same lines.
+fn same(name: &str, second: &[u8], proved: &[u8]) {
+    let second: Vec<&[u8]> = second.split_inclusive(|byte| *byte == b'\n').collect();
+    let proved: Vec<&[u8]> = proved.split_inclusive(|byte| *byte == b'\n').collect();
+    let differs = second.iter().zip(&proved).position(|(a, b)| a != b);
+    if let Some(at) = differs {
+        let (second, proved) = (second[at].escape_ascii(), proved[at].escape_ascii());
+        let line = at + 1;
+        panic!(
+            "{name}, line {line}: second {second}, proved {proved}, seed {:#018x}",
+            seed()
+        );
+    }
+    assert_eq!(second.len(), proved.len(), "{name}: the count of answers");
+}
