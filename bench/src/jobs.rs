@@ -5,12 +5,16 @@ use crate::cue::{Cue, Lent};
 use crate::{by_second, proved, yardstick};
 use std::hint::black_box;
 
+/// One question.
+type Ask = dyn Fn(&Cue, &mut Lent) -> u64;
+
+/// The same about all cues, so many times over: a loop of its own, so that a call costs only itself.
+type Passes = dyn Fn(&[Cue], usize, &mut Lent);
+
 /// One program at one job.
 pub struct Program {
-    /// One question.
-    pub ask: Box<dyn Fn(&Cue, &mut Lent) -> u64>,
-    /// All cues, so many times over, in a loop of its own, so that a call costs only itself.
-    pub passes: Box<dyn Fn(&[Cue], usize, &mut Lent)>,
+    pub ask: Box<Ask>,
+    pub passes: Box<Passes>,
 }
 
 impl Program {
@@ -30,16 +34,38 @@ impl Program {
 
 pub struct Job {
     pub name: &'static str,
+    pub about: About,
     pub proved: Program,
     pub yardstick: Program,
     pub second: Program,
 }
 
+/// What of a cue a job asks about.
+#[derive(Clone, Copy)]
+pub enum About {
+    Section,
+    Text,
+    Sheet,
+}
+
+impl Job {
+    /// The cues that have what the job asks about; every line is a text.
+    pub fn of(&self, cues: &[Cue]) -> Vec<Cue> {
+        let has = |cue: &&Cue| match self.about {
+            About::Section => !cue.section.is_empty(),
+            About::Text => true,
+            About::Sheet => !cue.sheet.is_empty(),
+        };
+        cues.iter().filter(has).cloned().collect()
+    }
+}
+
 /// A job, whose three functions have one name.
 macro_rules! job {
-    ($name:expr, $ask:ident) => {
+    ($name:expr, $about:ident, $ask:ident) => {
         Job {
             name: $name,
+            about: About::$about,
             proved: Program::new(proved::$ask),
             yardstick: Program::new(yardstick::$ask),
             second: Program::new(by_second::$ask),
@@ -65,17 +91,17 @@ pub struct Jobs {
 impl Jobs {
     pub fn new() -> Jobs {
         Jobs {
-            crc: job!("CRC", crc32),
-            accept: job!("accept", accept),
-            text_to_section: job!("text to section", text_to_section),
-            section_to_text: job!("section to text", section_to_text),
-            section_to_sheet: job!("section to sheet", section_to_sheet),
-            sheet_to_section: job!("sheet to section", sheet_to_section),
-            command: job!("command", command),
-            known_descriptor: job!("last known descriptor", known_descriptor),
-            break_answer: job!("break", break_answer),
-            effective_time: job!("effective time", effective_time),
-            line: job!("line", line),
+            crc: job!("CRC", Section, crc32),
+            accept: job!("accept", Section, accept),
+            text_to_section: job!("text to section", Text, text_to_section),
+            section_to_text: job!("section to text", Section, section_to_text),
+            section_to_sheet: job!("section to sheet", Section, section_to_sheet),
+            sheet_to_section: job!("sheet to section", Sheet, sheet_to_section),
+            command: job!("command", Section, command),
+            known_descriptor: job!("last known descriptor", Section, known_descriptor),
+            break_answer: job!("break", Section, break_answer),
+            effective_time: job!("effective time", Section, effective_time),
+            line: job!("line", Text, line),
         }
     }
 

@@ -18,7 +18,7 @@ mod yardstick;
 use cue::Cue;
 use jobs::Jobs;
 use samples::day::Day;
-use samples::Ring;
+use samples::{Ring, ACCEPTED_KINDS};
 use std::env;
 use std::path::Path;
 use std::process::ExitCode;
@@ -63,36 +63,26 @@ fn run(root: &Path, programs: &Programs) -> Result<(), String> {
     println!("The three programs gave the same {compared} answers before anything was timed.");
 
     tables::day(&jobs, &cues, &day.says());
-    tables::rings(
-        "Kinds of sections",
-        &kinds,
-        &[&jobs.accept, &jobs.break_answer, &jobs.line],
-    );
-    tables::rings(
-        "Lengths",
-        &lengths,
-        &[&jobs.crc, &jobs.accept, &jobs.break_answer, &jobs.line],
-    );
-    tables::rings(
-        "Typed readings",
-        &kinds[..10],
-        &[&jobs.effective_time, &jobs.command, &jobs.known_descriptor],
-    );
-    tables::rings(
-        "Texts",
-        &lengths,
-        &[&jobs.text_to_section, &jobs.section_to_text],
-    );
-    tables::rings(
-        "Sheets",
-        &lengths,
-        &[&jobs.section_to_sheet, &jobs.sheet_to_section],
-    );
+    sections(&jobs, &kinds, &lengths);
     let whole = whole::time(programs, &day)?;
     tables::whole(&whole);
     tables::stack(&stack::calls(&jobs, &all[all.len() - STACK_CUES..]));
     tables::pages(stack::pages(&programs.tally, &whole.file)?);
     Ok(())
+}
+
+/// The tables by kind and by length.
+fn sections(jobs: &Jobs, kinds: &[Ring], lengths: &[Ring]) {
+    let (accept, break_answer, line) = (&jobs.accept, &jobs.break_answer, &jobs.line);
+    tables::rings("Kinds of sections", kinds, &[accept, break_answer, line]);
+    let by_length = [&jobs.crc, accept, break_answer, line];
+    tables::rings("Lengths", lengths, &by_length);
+    let readings = [&jobs.effective_time, &jobs.command, &jobs.known_descriptor];
+    tables::rings("Typed readings", &kinds[..ACCEPTED_KINDS], &readings);
+    let texts = [&jobs.text_to_section, &jobs.section_to_text];
+    tables::rings("Texts", lengths, &texts);
+    let sheets = [&jobs.section_to_sheet, &jobs.sheet_to_section];
+    tables::rings("Sheets", lengths, &sheets);
 }
 
 /// Every cue that is timed.

@@ -17,6 +17,7 @@ pub fn run(root: &Path, name: &str, program: &str) -> Result<(), String> {
         "C" => &job.yardstick,
         _ => return Err("the program is proved or C".to_string()),
     };
+    let cues = job.of(&cues);
     watched(program, &cues);
     println!("{}", PASSES * cues.len());
     Ok(())

@@ -112,8 +112,8 @@ pub fn known_descriptor(cue: &Cue, lent: &mut Lent) -> u64 {
     }
 }
 
-/// The text as a stream: once held to the end, and once ended by a newline behind what is held. What
-/// is held goes to the front of the lent memory, the answers behind it.
+/// The text as a stream, ended by a newline behind what is held and then by the end of the stream.
+/// What is held goes to the front of the lent memory, the answers behind it.
 pub fn lines(cue: &Cue, lent: &mut Lent) -> u64 {
     let (carry, out) = lent.bytes.split_at_mut(LONGEST_TEXT);
     let [held, ..] = turn(0, &cue.text, carry, out);

@@ -1,6 +1,6 @@
 //! Rounds: in each, the proved library and the yardstick answer the same cues, one after the other,
 //! and the next round starts with the other. A disturbance longer than a round meets both alike, so
-//! that ratios hold where times do not. The second program, much slower, takes part in some rounds.
+//! that ratios hold where times do not. The second program, much slower, is timed by itself.
 
 use crate::cue::{Cue, Lent};
 use crate::jobs::{Job, Program};
@@ -12,17 +12,16 @@ const ROUND_NS: f64 = 40_000.0;
 /// About how long the proved library and the yardstick take in all rounds together.
 const ALL_NS: f64 = 200e6;
 
-/// How many rounds there are at least and at most, and every which one has the second program.
+/// How many rounds there are at least and at most, and how many the second program has.
 const FEWEST: usize = 101;
 const MOST: usize = 1_001;
-const SECOND_EVERY: usize = 20;
+const OF_SECOND: usize = 31;
 
 /// What the rounds of a job came to: medians in nanoseconds of a call, and how the proved library's
 /// times compare with the yardstick's.
 pub struct Line {
     pub proved: f64,
     pub c: f64,
-    pub second: f64,
     /// The median of the rounds' ratios.
     pub ratio: f64,
     /// The ratio of the least times, for which other work on the machine matters least.
@@ -33,7 +32,6 @@ pub struct Line {
 pub fn time(job: &Job, cues: &[Cue]) -> Line {
     let mut proved = Contender::new(&job.proved, cues);
     let mut c = Contender::new(&job.yardstick, cues);
-    let mut second = Contender::new(&job.second, cues);
     let passes = (ROUND_NS / proved.once()).ceil() as usize;
     (proved.passes, c.passes) = (passes, passes);
     let round = proved.once() + c.once();
@@ -46,18 +44,23 @@ pub fn time(job: &Job, cues: &[Cue]) -> Line {
             c.run();
             proved.run();
         }
-        if turn % SECOND_EVERY == 0 {
-            second.run();
-        }
     }
     let ratios = proved.times.iter().zip(&c.times).map(|(a, b)| a / b);
     Line {
         proved: median(&proved.times),
         c: median(&c.times),
-        second: median(&second.times),
         ratio: median(&ratios.collect::<Vec<_>>()),
         least: least(&proved.times) / least(&c.times),
     }
+}
+
+/// The second program's median, in nanoseconds of a call.
+pub fn time_second(job: &Job, cues: &[Cue]) -> f64 {
+    let mut second = Contender::new(&job.second, cues);
+    for _ in 0..OF_SECOND {
+        second.run();
+    }
+    median(&second.times)
 }
 
 /// One program at a job, and the nanoseconds of a call in each of its rounds.

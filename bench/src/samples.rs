@@ -45,7 +45,10 @@ impl Ring {
     }
 }
 
-/// Each kind of section, the refused ones last.
+/// How many of the kinds are accepted and not sealed; they stand first.
+pub const ACCEPTED_KINDS: usize = 9;
+
+/// Each kind of section, the sealed and the refused ones last.
 pub fn kinds() -> Vec<Ring> {
     let wrong_descriptor = build::known(0, &[0, 0, 1]);
     vec![

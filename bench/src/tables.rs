@@ -2,35 +2,36 @@
 
 use crate::cue::Cue;
 use crate::jobs::{Job, Jobs};
-use crate::rounds::{time, Line};
+use crate::rounds::{time, time_second, Line};
 use crate::samples::Ring;
 use crate::whole::{Timed, Whole};
 
-/// Each job on the cues of a day.
+/// Each job on those cues of a day that it can be asked of.
 pub fn day(jobs: &Jobs, cues: &[Cue], says: &str) {
-    title(&format!("A day: {} cues, {says}", cues.len()));
-    head(
-        "question",
-        &[
-            "proved",
-            "C",
-            "second",
-            "proved/C",
-            "least",
-            "proved/second",
-        ],
-    );
+    title(&format!("A day: {} lines, {says}", cues.len()));
+    let columns = [
+        "cues",
+        "proved",
+        "C",
+        "second",
+        "proved/C",
+        "least",
+        "proved/second",
+    ];
+    head("question", &columns);
     for job in jobs.all() {
-        let line = time(job, cues);
+        let cues = job.of(cues);
+        let (line, second) = (time(job, &cues), time_second(job, &cues));
         println!(
-            "| {} | {} | {} | {} | {} | {} | {:.3} |",
+            "| {} | {} | {} | {} | {} | {} | {} | {:.3} |",
             job.name,
+            cues.len(),
             ns(line.proved),
             ns(line.c),
-            ns(line.second),
+            ns(second),
             two(line.ratio),
             two(line.least),
-            line.proved / line.second
+            line.proved / second
         );
     }
 }

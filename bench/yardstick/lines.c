@@ -60,7 +60,7 @@ static void hold(struct yardstick_stream *stream, const uint8_t *part, size_t le
     stream->held += len;
 }
 
-/* A line that is too long has a length that every text is refused for, so its bytes do not count. */
+/* A line that is too long is refused for its length, so that its bytes do not count. */
 size_t yardstick_last_line(const struct yardstick_stream *stream, uint8_t *out)
 {
     return stream->held > 0 ? yardstick_line(stream->line, stream->held, out) : 0;

@@ -25,7 +25,8 @@ int32_t yardstick_section_to_text(const uint8_t *section, size_t len, uint8_t *o
 int32_t yardstick_section_to_sheet(const uint8_t *section, size_t len, uint64_t *out, size_t room);
 int32_t yardstick_sheet_to_section(const uint64_t *sheet, size_t len, uint8_t *out, size_t room);
 
-/* The numbers of docs/READINGS.md: the command, known descriptor n, the break, the effective time. */
+/* By the numbers of docs/READINGS.md: the command, known descriptor n, the break, the effective
+   time. */
 int32_t yardstick_command(const uint8_t *section, size_t len, uint64_t *out, size_t room);
 int32_t yardstick_known_descriptor(const uint8_t *section, size_t len, size_t n, uint64_t *out,
                                    size_t room);

@@ -61,7 +61,8 @@ fn same(stream: &[u8], pieces: &[&[u8]], room: usize) -> Result<usize, String> {
         return Ok(1);
     }
     Err(format!(
-        "the stream {:?} in {} pieces and room for {room}: proved {:?}, yardstick {:?}, second {:?}",
+        "the stream {:?} in {} pieces and room for {room}: proved {:?}, yardstick {:?}, \
+         second {:?}",
         String::from_utf8_lossy(stream),
         pieces.len(),
         String::from_utf8_lossy(&by_proved),

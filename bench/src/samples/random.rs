@@ -1,4 +1,4 @@
-//! Cues made by chance, the same in every run: mostly what a channel sends, some of everything else.
+//! Cues made by chance, the same in every run: mostly what a channel sends, and some of all else.
 
 use super::build::{self, known, put_crc, section};
 use crate::cue::Cue;
