@@ -80,7 +80,7 @@ fn sections(jobs: &Jobs, kinds: &[Ring], lengths: &[Ring]) {
     let readings = [&jobs.effective_time, &jobs.command, &jobs.known_descriptor];
     tables::rings("Typed readings", &kinds[..ACCEPTED_KINDS], &readings);
     let texts = [&jobs.text_to_section, &jobs.section_to_text];
-    tables::rings("Texts", lengths, &texts);
+    tables::rings("Texts", &samples::texts(), &texts);
     let sheets = [&jobs.section_to_sheet, &jobs.sheet_to_section];
     tables::rings("Sheets", lengths, &sheets);
 }

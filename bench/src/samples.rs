@@ -7,6 +7,7 @@ pub mod random;
 pub mod shapes;
 
 use crate::cue::Cue;
+use random::Chance;
 use second::text::text_to_section;
 
 /// How many variants a ring has: few enough that the longest sections stay in the fastest cache.
@@ -87,6 +88,21 @@ pub fn lengths() -> Vec<Ring> {
         rings.push(Ring::new("descriptors", build::descriptors(bytes)));
     }
     rings.push(Ring::new("longest sheet", build::longest_sheet()));
+    rings
+}
+
+/// The same lengths, and inserts of one shape that are all different: a reader whose branches go by
+/// characters cannot learn these.
+pub fn texts() -> Vec<Ring> {
+    let mut rings = lengths();
+    let mut chance = Chance::new(1);
+    let inserts = (0..2_000).map(|_| Cue::of_section(random::timed_insert(&mut chance)));
+    let cues: Vec<_> = inserts.collect();
+    rings.push(Ring {
+        name: "2,000 different inserts".to_string(),
+        bytes: cues[0].section.len(),
+        cues,
+    });
     rings
 }
 

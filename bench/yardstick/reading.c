@@ -5,10 +5,10 @@
 
 #include <string.h>
 
-/* An answer while it is made; none has more numbers. */
+/* An answer while it is made; none has more numbers. Only the count is set beforehand. */
 struct list {
-    uint64_t numbers[19];
     size_t count;
+    uint64_t numbers[19];
 };
 
 static void add(struct list *list, uint64_t number)
@@ -111,7 +111,8 @@ int32_t yardstick_command(const uint8_t *section, size_t len, uint64_t *out, siz
     enum row row = open(section, len, &loop);
     if (row != ACCEPTED)
         return -(int32_t)row;
-    struct list list = {.count = 0};
+    struct list list;
+    list.count = 0;
     command(&list, section, loop.at - 2);
     return give(&list, out, room);
 }
@@ -201,7 +202,8 @@ int32_t yardstick_known_descriptor(const uint8_t *section, size_t len, size_t n,
     for (; loop.at != loop.end; loop.at += 2 + loop.at[1]) {
         if (!is_known(loop.at) || n-- > 0)
             continue;
-        struct list list = {.count = 0};
+        struct list list;
+        list.count = 0;
         descriptor(&list, loop.at);
         return give(&list, out, room);
     }

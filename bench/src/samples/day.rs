@@ -1,5 +1,5 @@
-//! A day of lines: those of samples/day.txt over and over, as many made by chance, all in an order
-//! by chance. Without that file all are made.
+//! A day of lines: those of samples/day.txt over and over, each time with another pts_adjustment, as
+//! many made by chance, all in an order by chance. Without that file all are made.
 
 use super::random::{self, Chance};
 use crate::cue::Cue;
@@ -29,13 +29,14 @@ impl Day {
     /// So many lines.
     pub fn lines(&self, count: usize) -> Vec<Vec<u8>> {
         let mut chance = Chance::new(SEED);
-        let shipped = if self.shipped.is_empty() {
-            0
-        } else {
-            count / 2
-        };
-        let mut lines: Vec<_> = self.shipped.iter().cycle().take(shipped).cloned().collect();
-        lines.extend((shipped..count).map(|_| random::line(&mut chance)));
+        let mut lines = Vec::with_capacity(count);
+        for line in self.shipped.iter().cycle().take(count / 2) {
+            let cue = Cue::of_text(line.clone());
+            lines.push(random::at_another_time(cue, &mut chance));
+        }
+        while lines.len() < count {
+            lines.push(random::line(&mut chance));
+        }
         chance.shuffle(&mut lines);
         lines
     }

@@ -43,7 +43,7 @@ impl Chance {
 /// A line of a day: of a hundred, 50 time signals, 30 inserts, 10 nulls, 4 of other commands, 2
 /// sealed, 2 with a wrong CRC and 2 that are no text.
 pub fn line(chance: &mut Chance) -> Vec<u8> {
-    let mut made = match chance.below(100) {
+    let made = match chance.below(100) {
         0..=49 => signal(chance),
         50..=79 => insert(chance),
         80..=89 => section(0x00, &[], &[], 0),
@@ -52,12 +52,18 @@ pub fn line(chance: &mut Chance) -> Vec<u8> {
         96..=97 => wrong_crc(insert(chance)),
         _ => return no_text(chance),
     };
-    // pts_adjustment, where the CRC is not wrong on purpose
-    if second::crc::crc32(&made) == 0 {
-        made[5..9].copy_from_slice(&chance.next().to_be_bytes()[..4]);
-        put_crc(&mut made);
+    at_another_time(Cue::of_section(made), chance)
+}
+
+/// The text of a cue with another pts_adjustment; one that is refused stays as it is.
+pub fn at_another_time(cue: Cue, chance: &mut Chance) -> Vec<u8> {
+    if cue.sheet.is_empty() {
+        return cue.text;
     }
-    Cue::of_section(made).text
+    let mut section = cue.section;
+    section[5..9].copy_from_slice(&chance.next().to_be_bytes()[..4]);
+    put_crc(&mut section);
+    Cue::of_section(section).text
 }
 
 fn signal(chance: &mut Chance) -> Vec<u8> {
@@ -93,17 +99,20 @@ fn segmentation(chance: &mut Chance) -> Vec<u8> {
 }
 
 fn insert(chance: &mut Chance) -> Vec<u8> {
-    let mut command = chance.bytes(4);
-    match chance.below(10) {
-        0 => command.push(0xFF),
-        1 => command.extend([0x7F, 0x5F, 0, 1, 1, 1]),
-        2 => command.extend([&[0x7F, 0xCF][..], &time(chance), &[0, 1, 1, 1]].concat()),
-        _ => {
-            command.extend([0x7F, 0xEF]);
-            command.extend(time(chance));
-            command.extend([&time(chance)[..], &[0, 1, 1, 1]].concat());
-        }
-    }
+    let id = chance.bytes(4);
+    let rest = match chance.below(10) {
+        0 => vec![0xFF],
+        1 => vec![0x7F, 0x5F, 0, 1, 1, 1],
+        2 => [&[0x7F, 0xCF][..], &time(chance), &[0, 1, 1, 1]].concat(),
+        _ => return timed_insert(chance),
+    };
+    section(0x05, &[id, rest].concat(), &[], 0)
+}
+
+/// An insert out of the network with a time and a duration.
+pub fn timed_insert(chance: &mut Chance) -> Vec<u8> {
+    let (id, time, duration) = (chance.bytes(4), time(chance), time(chance));
+    let command = [&id[..], &[0x7F, 0xEF], &time, &duration, &[0, 1, 1, 1]].concat();
     section(0x05, &command, &[], 0)
 }
 
