@@ -5,11 +5,26 @@ use std::env;
 use std::path::Path;
 use std::process::Command;
 
+/// The yardstick without its program, and what measures the stack.
+const SOURCES: [&str; 8] = [
+    "yardstick/accept",
+    "yardstick/text",
+    "yardstick/house",
+    "yardstick/reading",
+    "yardstick/lines",
+    "yardstick/sheet",
+    "yardstick/unsheet",
+    "stack",
+];
+
 fn main() {
     let package = env::var("CARGO_MANIFEST_DIR").expect("cargo names the package's folder");
-    let package = Path::new(&package);
-    archive(package);
-    yardstick(package);
+    archive(Path::new(&package));
+    println!("cargo:rerun-if-changed=yardstick");
+    println!("cargo:rerun-if-env-changed=CC");
+    for source in SOURCES {
+        compile(Path::new(&package), source);
+    }
 }
 
 fn archive(package: &Path) {
@@ -23,29 +38,22 @@ fn archive(package: &Path) {
     println!("cargo:rustc-link-search=native={}", folder.display());
 }
 
-fn yardstick(package: &Path) {
-    for header in ["yardstick.h", "yardstick_parts.h", "yardstick_tables.h"] {
-        println!("cargo:rerun-if-changed={header}");
-    }
-    println!("cargo:rerun-if-env-changed=CC");
-    for part in ["yardstick", "yardstick_sheet", "yardstick_unsheet"] {
-        compile(&package.join(part).with_extension("c"), part);
-    }
-}
-
-fn compile(source: &Path, part: &str) {
-    println!("cargo:rerun-if-changed={}", source.display());
+fn compile(package: &Path, source: &str) {
+    let path = package.join(source).with_extension("c");
+    println!("cargo:rerun-if-changed={}", path.display());
     let compiler = env::var("CC").unwrap_or_else(|_| "cc".to_string());
     let folder = env::var("OUT_DIR").expect("cargo names a folder to build in");
-    let object = Path::new(&folder).join(part).with_extension("o");
+    let object = Path::new(&folder)
+        .join(source.replace('/', "_"))
+        .with_extension("o");
     let status = Command::new(&compiler)
         .args(["-std=c11", "-O2", "-Wall", "-Wextra", "-c", "-o"])
         .arg(&object)
-        .arg(source)
+        .arg(path)
         .status();
     assert!(
         status.is_ok_and(|status| status.success()),
-        "{compiler} does not compile {part}.c"
+        "{compiler} does not compile {source}.c"
     );
     println!("cargo:rustc-link-arg={}", object.display());
 }

@@ -1,131 +1,162 @@
-//! Before anything is timed: all three programs give the same answers, on inputs whole and damaged.
-//! Whole ones must be accepted, so that no time is that of a refusal.
+//! Before anything is timed: all three programs give the same answers, and leave the lent memory
+//! alike, on cues whole and damaged.
 
-mod sheets;
+mod streams;
 
-use crate::samples::{build, shapes, Sample, LONGEST_SECTION};
-use crate::{proved, yardstick};
+use crate::cue::{Cue, Lent, LONGEST_LINE, REFUSED};
+use crate::jobs::{Job, Jobs};
+use crate::samples::{build, shapes};
 
-/// Sections up to this length are damaged too.
-const DAMAGED: usize = 300;
+/// The room for what short sections and sheets are damaged to.
+const SOME_ROOM: usize = 400;
 
 /// How many questions got the same answer from all three, or what differs.
-pub fn check(samples: &[&Sample]) -> Result<usize, String> {
+pub fn check(jobs: &Jobs, cues: &[&Cue]) -> Result<usize, String> {
+    let agree = Agree { jobs };
     let mut compared = 0;
-    for sample in samples {
-        for (turn, section) in sample.sections.iter().enumerate() {
-            compared += same_row(section, Some(0))?;
-            compared += same_text(&sample.texts[turn], Some(section))?;
-            compared += sheets::whole(section, &sample.sheets[turn])?;
-        }
-        if sample.bytes <= DAMAGED {
-            compared += damaged_section(&sample.sections[0])?;
-            compared += damaged_text(&sample.texts[0])?;
-            compared += sheets::damaged(&sample.sections[0])?;
-        }
+    for cue in cues {
+        compared += agree.whole(cue)?;
     }
     for section in shapes::too_long() {
-        compared += same_row(&section, Some(4))?;
+        compared += agree.whole(&Cue::of_section(section))?;
     }
     for section in shapes::sections() {
-        compared += damaged_section(&section)?;
-        compared += sheets::damaged(&section)?;
+        compared += agree.damaged_section(&section)?;
+        compared += agree.damaged_sheet(Cue::of_section(section).sheet)?;
     }
     for text in shapes::texts() {
-        compared += damaged_text(&text)?;
+        compared += agree.damaged_text(&text)?;
     }
-    Ok(compared)
+    let texts: Vec<_> = cues.iter().map(|cue| &cue.text[..]).collect();
+    Ok(compared + streams::check(&texts)?)
 }
 
-/// The section, every length that it is cut to, and every byte changed to every other, each with
-/// the CRC put right; and every byte changed with the CRC left wrong.
-fn damaged_section(section: &[u8]) -> Result<usize, String> {
-    let mut compared = same_row_and_sheet(section)?;
-    for place in 0..section.len() {
-        compared += same_row_and_sheet(&section[..place])?;
-        for change in 0..=255 {
-            let mut other = section.to_vec();
-            other[place] ^= change;
-            if change == 0xFF {
-                compared += same_row_and_sheet(&other)?;
+struct Agree<'a> {
+    jobs: &'a Jobs,
+}
+
+impl Agree<'_> {
+    /// Every question about a cue, in enough room, in just enough and in too little.
+    fn whole(&self, cue: &Cue) -> Result<usize, String> {
+        let mut compared = 0;
+        for job in self.jobs.all() {
+            compared += same(job, cue, &Lent::ample())?;
+        }
+        for job in self.jobs.in_any_room() {
+            let mut lent = Lent::ample();
+            let count = (job.second.ask)(cue, &mut lent) as usize;
+            for room in [count, count.wrapping_sub(1)] {
+                if room < lent.bytes.len() {
+                    compared += same(job, cue, &Lent::new(room, room))?;
+                }
             }
-            build::put_crc(&mut other);
-            compared += same_row_and_sheet(&other)?;
         }
+        Ok(compared)
     }
-    Ok(compared)
-}
 
-fn same_row_and_sheet(section: &[u8]) -> Result<usize, String> {
-    Ok(same_row(section, None)? + sheets::of_any(section)?)
-}
-
-/// The text, every length that it is cut to, and every character changed to every byte.
-fn damaged_text(text: &[u8]) -> Result<usize, String> {
-    let mut compared = same_text(text, None)?;
-    for place in 0..text.len() {
-        compared += same_text(&text[..place], None)?;
-        for character in 0..=255 {
-            let mut other = text.to_vec();
-            other[place] = character;
-            compared += same_text(&other, None)?;
+    /// The section, every length that it is cut to, and every byte changed to every other, each
+    /// with the CRC put right; and every byte changed with the CRC left wrong.
+    fn damaged_section(&self, section: &[u8]) -> Result<usize, String> {
+        let mut compared = self.section(section)?;
+        for place in 0..section.len() {
+            compared += self.section(&section[..place])?;
+            for change in 0..=255 {
+                let mut other = section.to_vec();
+                other[place] ^= change;
+                if change == 0xFF {
+                    compared += self.section(&other)?;
+                }
+                build::put_crc(&mut other);
+                compared += self.section(&other)?;
+            }
         }
+        Ok(compared)
     }
-    Ok(compared)
+
+    /// Every question about a section, and its line.
+    fn section(&self, section: &[u8]) -> Result<usize, String> {
+        let cue = Cue::of_section(section.to_vec());
+        let lent = Lent::new(SOME_ROOM, SOME_ROOM);
+        let mut compared = same(&self.jobs.line, &cue, &lent)?;
+        for job in self.jobs.of_sections() {
+            compared += same(job, &cue, &lent)?;
+        }
+        Ok(compared)
+    }
+
+    /// The sheet, every length that it is cut to, a number put in at every place, and every number
+    /// changed: its low byte to every other, and each bit above.
+    fn damaged_sheet(&self, sheet: Vec<u64>) -> Result<usize, String> {
+        let mut compared = self.sheet(sheet.clone())?;
+        let changes: Vec<u64> = (0..=255).chain((8..64).map(|bit| 1 << bit)).collect();
+        for place in 0..sheet.len() {
+            compared += self.sheet(sheet[..place].to_vec())?;
+            let mut longer = sheet.clone();
+            longer.insert(place, 1);
+            compared += self.sheet(longer)?;
+            for change in &changes {
+                let mut other = sheet.clone();
+                other[place] ^= change;
+                compared += self.sheet(other)?;
+            }
+        }
+        Ok(compared)
+    }
+
+    fn sheet(&self, sheet: Vec<u64>) -> Result<usize, String> {
+        let cue = Cue {
+            sheet,
+            ..Cue::default()
+        };
+        same(&self.jobs.sheet_to_section, &cue, &Lent::new(SOME_ROOM, 0))
+    }
+
+    /// The text, every length that it is cut to, and every character changed to every byte.
+    fn damaged_text(&self, text: &[u8]) -> Result<usize, String> {
+        let mut compared = self.text(text.to_vec())?;
+        for place in 0..text.len() {
+            compared += self.text(text[..place].to_vec())?;
+            for character in 0..=255 {
+                let mut other = text.to_vec();
+                other[place] = character;
+                compared += self.text(other)?;
+            }
+        }
+        Ok(compared)
+    }
+
+    fn text(&self, text: Vec<u8>) -> Result<usize, String> {
+        let cue = Cue {
+            text,
+            ..Cue::default()
+        };
+        let lent = Lent::new(SOME_ROOM, 0);
+        Ok(same(&self.jobs.text_to_section, &cue, &lent)? + same(&self.jobs.line, &cue, &lent)?)
+    }
 }
 
-/// The CRC and the row of a section; the yardstick's fields are its row with the CRC left out.
-fn same_row(section: &[u8], expected: Option<u32>) -> Result<usize, String> {
-    let row = second::section::accept(section).map_or_else(u32::from, |_| 0);
-    let fields = yardstick::fields(section);
-    let same = second::crc::crc32(section) == proved::crc32(section)
-        && proved::crc32(section) == yardstick::crc32(section)
-        && row == proved::accept(section)
-        && row == yardstick::accept(section)
-        && row == yardstick::accept_by_the_proved_crc(section)
-        && (row == 5 || row == fields)
-        && expected.is_none_or(|expected| row == expected);
-    if same {
+/// Whether the three programs answer alike in such memory, which stays alike too.
+fn same(job: &Job, cue: &Cue, room: &Lent) -> Result<usize, String> {
+    let answers = [&job.proved, &job.yardstick, &job.second].map(|program| {
+        let mut lent = room.clone();
+        ((program.ask)(cue, &mut lent), lent)
+    });
+    if answers[0] == answers[1] && answers[1] == answers[2] {
         return Ok(1);
     }
+    let says = |number: u64| match number.checked_sub(REFUSED) {
+        Some(row) => format!("refused by {row}"),
+        None => number.to_string(),
+    };
     Err(format!(
-        "section {section:02x?}: proved {}, yardstick {} ({fields} by fields), second {row}",
-        proved::accept(section),
-        yardstick::accept(section)
+        "{}: proved {}, yardstick {}, second {}, or else the memory differs, of section {:02x?}, \
+         text {:?}, sheet {:?}",
+        job.name,
+        says(answers[0].0),
+        says(answers[1].0),
+        says(answers[2].0),
+        cue.section,
+        String::from_utf8_lossy(&cue.text),
+        cue.sheet
     ))
-}
-
-/// The bytes of a text or the row that refuses it, and every byte of the memory lent for them.
-fn same_text(text: &[u8], expected: Option<&[u8]>) -> Result<usize, String> {
-    let by_second = second::text::text_to_section(text, LONGEST_SECTION).map_err(u32::from);
-    let by_proved = read(text, proved::text_to_section);
-    let by_yardstick = read(text, yardstick::text_to_section);
-    let mut out = vec![LENT; LONGEST_SECTION];
-    if let Ok(section) = &by_second {
-        out[..section.len()].copy_from_slice(section);
-    }
-    let answer = (by_second.map(|section| section.len()), out);
-    if answer == by_proved
-        && answer == by_yardstick
-        && expected.is_none_or(|section| answer.1.starts_with(section))
-    {
-        return Ok(1);
-    }
-    Err(format!(
-        "text {:?}: proved {:?}, yardstick {:?}, second {:?}, or else the bytes differ",
-        String::from_utf8_lossy(text),
-        by_proved.0,
-        by_yardstick.0,
-        answer.0
-    ))
-}
-
-/// What stands before in the memory lent for a text.
-const LENT: u8 = 0xA5;
-
-type ReadText = fn(&[u8], &mut [u8]) -> Result<usize, u32>;
-
-fn read(text: &[u8], by: ReadText) -> (Result<usize, u32>, Vec<u8>) {
-    let mut out = vec![LENT; LONGEST_SECTION];
-    (by(text, &mut out), out)
 }

@@ -1,126 +1,151 @@
-//! The jobs that are timed on a sample, by each of the programs, and what their times come to.
-//! fields is what a section costs besides its CRC; three ways of taking it stand side by side.
+//! The jobs: one question each, put to the proved library, to the yardstick and to the second
+//! program in the same form, so that what is timed is what was compared.
 
-pub mod sheets;
+use crate::cue::{Cue, Lent};
+use crate::{by_second, proved, yardstick};
+use std::hint::black_box;
 
-use crate::rounds::{least, median, ratios, run, Contender, Times};
-use crate::samples::{Sample, LONGEST_SECTION};
-use crate::{proved, yardstick};
+/// One question.
+type Ask = dyn Fn(&Cue, &mut Lent) -> u64;
 
-/// One line of the table: nanoseconds of a call, and how the proved library's compare.
-pub struct Line {
-    pub job: &'static str,
-    pub proved: f64,
-    /// The least of the rounds, for which other work on the machine matters least.
-    pub proved_least: f64,
-    pub c: f64,
-    pub second: Option<f64>,
-    /// proved / C: the median of the rounds' ratios, or, where a CRC is taken away, of medians.
-    pub median: f64,
-    /// proved / C of the least times.
-    pub least: f64,
+/// The same about all cues, so many times over: a loop of its own, so that a call costs only itself.
+type Passes = dyn Fn(&[Cue], usize, &mut Lent);
+
+/// One program at one job.
+pub struct Program {
+    pub ask: Box<Ask>,
+    pub passes: Box<Passes>,
 }
 
-/// crc, text, accept and fields of a sample, and the sum of all answers.
-pub fn all(sample: &Sample) -> (Vec<Line>, u64) {
-    let (sections, texts) = (&sample.sections, &sample.texts);
-    let (mut out, mut other_out) = (vec![0; LONGEST_SECTION], vec![0; LONGEST_SECTION]);
-    let (times, sum) = run(vec![
-        Contender::new(sections, |section| proved::crc32(section).into()),
-        Contender::new(sections, |section| yardstick::crc32(section).into()),
-        Contender::new(sections, |section| second::crc::crc32(section).into()),
-        Contender::new(texts, |text| {
-            written(proved::text_to_section(text, &mut out), &out)
-        }),
-        Contender::new(texts, |text| {
-            written(yardstick::text_to_section(text, &mut other_out), &other_out)
-        }),
-        Contender::new(texts, second_text),
-        Contender::new(sections, |section| proved::accept(section).into()),
-        Contender::new(sections, |section| yardstick::accept(section).into()),
-        Contender::new(sections, second_accept),
-        Contender::new(sections, |section| yardstick::fields(section).into()),
-        Contender::new(sections, |section| {
-            yardstick::accept_by_the_proved_crc(section).into()
-        }),
-    ]);
-    let [crc, c_crc, second_crc, texts @ .., accept, c_accept, second_accept, c_fields, c_around] =
-        &times[..]
-    else {
-        unreachable!("each contender has its times")
+impl Program {
+    pub fn new(ask: impl Fn(&Cue, &mut Lent) -> u64 + Copy + 'static) -> Program {
+        Program {
+            ask: Box::new(ask),
+            passes: Box::new(move |cues, passes, lent| {
+                for _ in 0..passes {
+                    for cue in cues {
+                        black_box(ask(black_box(cue), lent));
+                    }
+                }
+            }),
+        }
+    }
+}
+
+pub struct Job {
+    pub name: &'static str,
+    pub about: About,
+    pub proved: Program,
+    pub yardstick: Program,
+    pub second: Program,
+}
+
+/// What of a cue a job asks about.
+#[derive(Clone, Copy)]
+pub enum About {
+    Section,
+    Text,
+    Sheet,
+}
+
+impl Job {
+    /// The cues that have what the job asks about; every line is a text.
+    pub fn of(&self, cues: &[Cue]) -> Vec<Cue> {
+        let has = |cue: &&Cue| match self.about {
+            About::Section => !cue.section.is_empty(),
+            About::Text => true,
+            About::Sheet => !cue.sheet.is_empty(),
+        };
+        cues.iter().filter(has).cloned().collect()
+    }
+}
+
+/// A job, whose three functions have one name.
+macro_rules! job {
+    ($name:expr, $about:ident, $ask:ident) => {
+        Job {
+            name: $name,
+            about: About::$about,
+            proved: Program::new(proved::$ask),
+            yardstick: Program::new(yardstick::$ask),
+            second: Program::new(by_second::$ask),
+        }
     };
-    let lines = vec![
-        called("crc", crc, c_crc, second_crc),
-        called("text", &texts[0], &texts[1], &texts[2]),
-        called("accept", accept, c_accept, second_accept),
-        Line {
-            second: Some(median(second_accept) - median(second_crc)),
-            ..without("fields", accept, crc, |of| of(c_accept) - of(c_crc))
-        },
-        without("fields, one CRC", accept, crc, |of| of(c_around) - of(crc)),
-        without("fields, C alone", accept, crc, |of| of(c_fields)),
-    ];
-    (lines, sum)
 }
 
-/// accept alone.
-pub fn accept(sample: &Sample) -> (Line, u64) {
-    let sections = &sample.sections;
-    let (times, sum) = run(vec![
-        Contender::new(sections, |section| proved::accept(section).into()),
-        Contender::new(sections, |section| yardstick::accept(section).into()),
-        Contender::new(sections, second_accept),
-    ]);
-    (called("accept", &times[0], &times[1], &times[2]), sum)
+/// Every job, by what it asks about.
+pub struct Jobs {
+    pub crc: Job,
+    pub accept: Job,
+    pub text_to_section: Job,
+    pub section_to_text: Job,
+    pub section_to_sheet: Job,
+    pub sheet_to_section: Job,
+    pub command: Job,
+    pub known_descriptor: Job,
+    pub break_answer: Job,
+    pub effective_time: Job,
+    pub line: Job,
 }
 
-/// A job that is a call of its own.
-fn called(job: &'static str, proved: &Times, c: &Times, second: &Times) -> Line {
-    Line {
-        job,
-        proved: median(proved),
-        proved_least: least(proved),
-        c: median(c),
-        second: Some(median(second)),
-        median: median(&ratios(proved, c)),
-        least: least(proved) / least(c),
+impl Jobs {
+    pub fn new() -> Jobs {
+        Jobs {
+            crc: job!("CRC", Section, crc32),
+            accept: job!("accept", Section, accept),
+            text_to_section: job!("text to section", Text, text_to_section),
+            section_to_text: job!("section to text", Section, section_to_text),
+            section_to_sheet: job!("section to sheet", Section, section_to_sheet),
+            sheet_to_section: job!("sheet to section", Sheet, sheet_to_section),
+            command: job!("command", Section, command),
+            known_descriptor: job!("last known descriptor", Section, known_descriptor),
+            break_answer: job!("break", Section, break_answer),
+            effective_time: job!("effective time", Section, effective_time),
+            line: job!("line", Text, line),
+        }
     }
-}
 
-/// The proved accept with its CRC taken away, beside what C takes: by medians and by least times.
-fn without(
-    job: &'static str,
-    accept: &Times,
-    crc: &Times,
-    c: impl Fn(fn(&Times) -> f64) -> f64,
-) -> Line {
-    let proved = |of: fn(&Times) -> f64| of(accept) - of(crc);
-    Line {
-        job,
-        proved: proved(median),
-        proved_least: proved(least),
-        c: c(median),
-        second: None,
-        median: proved(median) / c(median),
-        least: proved(least) / c(least),
+    pub fn all(&self) -> [&Job; 11] {
+        [
+            &self.crc,
+            &self.accept,
+            &self.break_answer,
+            &self.effective_time,
+            &self.command,
+            &self.known_descriptor,
+            &self.text_to_section,
+            &self.section_to_text,
+            &self.section_to_sheet,
+            &self.sheet_to_section,
+            &self.line,
+        ]
     }
-}
 
-fn second_accept(section: &[u8]) -> u64 {
-    second::section::accept(section).map_or_else(u64::from, |read| read.crc_32.into())
-}
-
-fn second_text(text: &[u8]) -> u64 {
-    match second::text::text_to_section(text, LONGEST_SECTION) {
-        Ok(section) => written(Ok(section.len()), &section),
-        Err(row) => row.into(),
+    /// Those that ask about the section.
+    pub fn of_sections(&self) -> [&Job; 8] {
+        [
+            &self.crc,
+            &self.accept,
+            &self.break_answer,
+            &self.effective_time,
+            &self.command,
+            &self.known_descriptor,
+            &self.section_to_text,
+            &self.section_to_sheet,
+        ]
     }
-}
 
-/// An answer that needs the last byte or number that was written.
-fn written<T: Copy + Into<u64>>(answer: Result<usize, u32>, out: &[T]) -> u64 {
-    match answer {
-        Ok(count) => count as u64 + out[count - 1].into(),
-        Err(row) => row.into(),
+    /// Those that can be asked in any room.
+    pub fn in_any_room(&self) -> [&Job; 8] {
+        [
+            &self.break_answer,
+            &self.effective_time,
+            &self.command,
+            &self.known_descriptor,
+            &self.text_to_section,
+            &self.section_to_text,
+            &self.section_to_sheet,
+            &self.sheet_to_section,
+        ]
     }
 }

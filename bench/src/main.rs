@@ -1,86 +1,94 @@
-//! Times the proved library, the C yardstick and the second program in one process, round by round.
-//! It first compares their answers, and stops with status 1 where they differ.
+//! Times the proved library, the C yardstick and the second program in one process, round by round,
+//! and the three as programs on a file of lines. It first compares their answers, and stops with
+//! status 1 where they differ. The tables go to standard output, everything else to standard error.
 
 mod agree;
+mod by_second;
+mod cue;
 mod jobs;
+mod profile;
 mod proved;
 mod rounds;
 mod samples;
-mod table;
+mod stack;
+mod tables;
+mod whole;
 mod yardstick;
 
-use samples::Sample;
+use cue::Cue;
+use jobs::Jobs;
+use samples::day::Day;
+use samples::{Ring, ACCEPTED_KINDS};
+use std::env;
+use std::path::Path;
 use std::process::ExitCode;
+use whole::Programs;
+
+/// How many cues are asked for the stack: every kind and every length, and some of the day's.
+const STACK_CUES: usize = 500;
 
 fn main() -> ExitCode {
-    let (inputs, lengths) = (samples::inputs(), samples::lengths());
-    let sheet_lengths = samples::sheet_lengths();
-    let samples: Vec<_> = inputs
-        .iter()
-        .chain(&lengths)
-        .chain(&sheet_lengths)
-        .collect();
-    match agree::check(&samples) {
-        Ok(compared) => println!("all three give the same {compared} answers"),
-        Err(differs) => {
-            eprintln!("bench: the programs do not agree, nothing is timed: {differs}");
-            return ExitCode::FAILURE;
+    yardstick::prepare();
+    let words: Vec<_> = env::args().skip(1).collect();
+    let words: Vec<_> = words.iter().map(String::as_str).collect();
+    let done = match words[..] {
+        ["profile", root, question, program] => profile::run(Path::new(root), question, program),
+        [root, tally, yardstick, second, folder] => run(
+            Path::new(root),
+            &Programs {
+                tally: tally.into(),
+                yardstick: yardstick.into(),
+                second: second.into(),
+                folder: folder.into(),
+            },
+        ),
+        _ => Err("usage: bench ROOT TALLY YARDSTICK SECOND FOLDER".to_string()),
+    };
+    match done {
+        Ok(()) => ExitCode::SUCCESS,
+        Err(wrong) => {
+            eprintln!("bench: {wrong}");
+            ExitCode::FAILURE
         }
     }
-    println!("{} rounds; times are medians in ns", rounds::ROUNDS);
-
-    let sums = [
-        each_input(&inputs, jobs::all),
-        accept_by_length(&lengths),
-        each_input(&inputs, jobs::sheets::all),
-        sheets_by_length(&sheet_lengths),
-    ];
-    let checksum = sums.into_iter().fold(0, u64::wrapping_add);
-    println!("\nsum of all answers: {checksum:016x}");
-    ExitCode::SUCCESS
 }
 
-// Each of these prints what it times and gives the sum of all answers.
+fn run(root: &Path, programs: &Programs) -> Result<(), String> {
+    let jobs = Jobs::new();
+    let day = Day::new(root);
+    let (cues, kinds, lengths) = (day.cues(), samples::kinds(), samples::lengths());
+    let all = every(&cues, &kinds, &lengths);
+    let compared = agree::check(&jobs, &all)?;
+    eprintln!("bench: the three programs give the same {compared} answers");
+    println!("The three programs gave the same {compared} answers before anything was timed.");
 
-fn each_input(inputs: &[Sample], jobs: fn(&Sample) -> (Vec<jobs::Line>, u64)) -> u64 {
-    let mut checksum = 0u64;
-    table::jobs_head();
-    for input in inputs {
-        let (lines, sum) = jobs(input);
-        checksum = checksum.wrapping_add(sum);
-        for line in &lines {
-            table::job(input, line);
-        }
-    }
-    checksum
+    tables::day(&jobs, &cues, &day.says());
+    sections(&jobs, &kinds, &lengths);
+    let whole = whole::time(programs, &day)?;
+    tables::whole(&whole);
+    tables::stack(&stack::calls(&jobs, &all[all.len() - STACK_CUES..]));
+    tables::pages(stack::pages(&programs.tally, &whole.file)?);
+    Ok(())
 }
 
-fn accept_by_length(lengths: &[Sample]) -> u64 {
-    let mut checksum = 0u64;
-    table::lengths_head("accept");
-    for sample in lengths {
-        let (line, sum) = jobs::accept(sample);
-        checksum = checksum.wrapping_add(sum);
-        table::length(sample, &line);
-    }
-    checksum
+/// The tables by kind and by length.
+fn sections(jobs: &Jobs, kinds: &[Ring], lengths: &[Ring]) {
+    let (accept, break_answer, line) = (&jobs.accept, &jobs.break_answer, &jobs.line);
+    tables::rings("Kinds of sections", kinds, &[accept, break_answer, line]);
+    let by_length = [&jobs.crc, accept, break_answer, line];
+    tables::rings("Lengths", lengths, &by_length);
+    let readings = [&jobs.effective_time, &jobs.command, &jobs.known_descriptor];
+    tables::rings("Typed readings", &kinds[..ACCEPTED_KINDS], &readings);
+    let texts = [&jobs.text_to_section, &jobs.section_to_text];
+    tables::rings("Texts", &samples::texts(), &texts);
+    let sheets = [&jobs.section_to_sheet, &jobs.sheet_to_section];
+    tables::rings("Sheets", lengths, &sheets);
 }
 
-fn sheets_by_length(lengths: &[Sample]) -> u64 {
-    let mut checksum = 0u64;
-    let mut ways = [Vec::new(), Vec::new()];
-    for sample in lengths {
-        let (lines, sum) = jobs::sheets::both(sample);
-        checksum = checksum.wrapping_add(sum);
-        for (way, line) in ways.iter_mut().zip(lines) {
-            way.push((sample, line));
-        }
-    }
-    for way in &ways {
-        table::lengths_head(way[0].1.job);
-        for (sample, line) in way {
-            table::length(sample, line);
-        }
-    }
-    checksum
+/// Every cue that is timed.
+fn every<'a>(cues: &'a [Cue], kinds: &'a [Ring], lengths: &'a [Ring]) -> Vec<&'a Cue> {
+    let rings = kinds.iter().chain(lengths);
+    cues.iter()
+        .chain(rings.flat_map(|ring| &ring.cues))
+        .collect()
 }

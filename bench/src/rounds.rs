@@ -1,83 +1,113 @@
-//! Rounds: in each, one contender after another answers a batch; the next starts with another.
-//! A disturbance longer than a round meets all alike, so that ratios hold where times do not.
+//! Rounds: in each, the proved library and the yardstick answer the same cues, one after the other,
+//! and the next round starts with the other. A disturbance longer than a round meets both alike, so
+//! that ratios hold where times do not. The second program, much slower, is timed by itself.
 
-use std::hint::black_box;
+use crate::cue::{Cue, Lent};
+use crate::jobs::{Job, Program};
 use std::time::Instant;
 
-/// How many rounds are run.
-pub const ROUNDS: usize = 2_001;
+/// About how long the proved library takes in a round, at least.
+const ROUND_NS: f64 = 40_000.0;
 
-/// About how long a batch lasts.
-const BATCH_NS: f64 = 40_000.0;
+/// About how long the proved library and the yardstick take in all rounds together.
+const ALL_NS: f64 = 200e6;
 
-/// One program at one job: answers so many questions and sums the answers.
-pub struct Contender<'a> {
-    batch: Box<dyn FnMut(usize) -> u64 + 'a>,
-    calls: usize,
+/// How many rounds there are at least and at most, and how many the second program has.
+const FEWEST: usize = 101;
+const MOST: usize = 1_001;
+const OF_SECOND: usize = 31;
+
+/// What the rounds of a job came to: medians in nanoseconds of a call, and how the proved library's
+/// times compare with the yardstick's.
+pub struct Line {
+    pub proved: f64,
+    pub c: f64,
+    /// The median of the rounds' ratios.
+    pub ratio: f64,
+    /// The ratio of the least times, for which other work on the machine matters least.
+    pub least: f64,
+}
+
+/// Times one job on these cues.
+pub fn time(job: &Job, cues: &[Cue]) -> Line {
+    let mut proved = Contender::new(&job.proved, cues);
+    let mut c = Contender::new(&job.yardstick, cues);
+    let passes = (ROUND_NS / proved.once()).ceil() as usize;
+    (proved.passes, c.passes) = (passes, passes);
+    let round = proved.once() + c.once();
+    let rounds = ((ALL_NS / round) as usize).clamp(FEWEST, MOST);
+    for turn in 0..rounds {
+        if turn % 2 == 0 {
+            proved.run();
+            c.run();
+        } else {
+            c.run();
+            proved.run();
+        }
+    }
+    let ratios = proved.times.iter().zip(&c.times).map(|(a, b)| a / b);
+    Line {
+        proved: median(&proved.times),
+        c: median(&c.times),
+        ratio: median(&ratios.collect::<Vec<_>>()),
+        least: least(&proved.times) / least(&c.times),
+    }
+}
+
+/// The second program's median, in nanoseconds of a call.
+pub fn time_second(job: &Job, cues: &[Cue]) -> f64 {
+    let mut second = Contender::new(&job.second, cues);
+    for _ in 0..OF_SECOND {
+        second.run();
+    }
+    median(&second.times)
+}
+
+/// One program at a job, and the nanoseconds of a call in each of its rounds.
+struct Contender<'a> {
+    program: &'a Program,
+    cues: &'a [Cue],
+    passes: usize,
+    lent: Lent,
+    times: Vec<f64>,
 }
 
 impl<'a> Contender<'a> {
-    /// Asks about the inputs in turn, in a loop of its own, so that a call costs only itself.
-    pub fn new<T, const N: usize>(
-        ring: &'a [Vec<T>; N],
-        mut question: impl FnMut(&[T]) -> u64 + 'a,
-    ) -> Contender<'a> {
-        let batch = move |calls| {
-            let mut sum = 0u64;
-            for call in 0..calls {
-                sum = sum.wrapping_add(question(black_box(&ring[call % N])));
-            }
-            sum
-        };
-        let mut contender = Contender {
-            batch: Box::new(batch),
-            calls: N,
-        };
-        contender.run();
-        let once = contender.run().0;
-        contender.calls = ((BATCH_NS / once) as usize).max(1);
-        contender
-    }
-
-    /// The nanoseconds of one call, and the sum of the answers.
-    fn run(&mut self) -> (f64, u64) {
-        let start = Instant::now();
-        let sum = black_box((self.batch)(self.calls));
-        let took = start.elapsed();
-        (took.as_nanos() as f64 / self.calls as f64, sum)
-    }
-}
-
-/// The nanoseconds of a call in each round, for one contender.
-pub type Times = Vec<f64>;
-
-/// Runs all rounds; the last number is the sum of all answers.
-pub fn run(mut contenders: Vec<Contender>) -> (Vec<Times>, u64) {
-    let count = contenders.len();
-    let mut times = vec![Times::with_capacity(ROUNDS); count];
-    let mut sum = 0u64;
-    for round in 0..ROUNDS {
-        for turn in 0..count {
-            let one = (round + turn) % count;
-            let (ns, answers) = contenders[one].run();
-            times[one].push(ns);
-            sum = sum.wrapping_add(answers);
+    fn new(program: &'a Program, cues: &'a [Cue]) -> Contender<'a> {
+        Contender {
+            program,
+            cues,
+            passes: 1,
+            lent: Lent::ample(),
+            times: Vec::new(),
         }
     }
-    (times, sum)
+
+    /// The nanoseconds of a round, the second of two, since the first finds nothing in the caches.
+    fn once(&mut self) -> f64 {
+        self.took();
+        self.took()
+    }
+
+    fn run(&mut self) {
+        let calls = self.passes * self.cues.len();
+        let took = self.took();
+        self.times.push(took / calls as f64);
+    }
+
+    fn took(&mut self) -> f64 {
+        let start = Instant::now();
+        (self.program.passes)(self.cues, self.passes, &mut self.lent);
+        start.elapsed().as_nanos() as f64
+    }
 }
 
-pub fn median(times: &Times) -> f64 {
-    let mut sorted = times.clone();
+pub fn median(times: &[f64]) -> f64 {
+    let mut sorted = times.to_vec();
     sorted.sort_by(f64::total_cmp);
     sorted[sorted.len() / 2]
 }
 
-pub fn least(times: &Times) -> f64 {
+pub fn least(times: &[f64]) -> f64 {
     times.iter().copied().fold(f64::INFINITY, f64::min)
-}
-
-/// a / b, round by round.
-pub fn ratios(a: &Times, b: &Times) -> Times {
-    a.iter().zip(b).map(|(a, b)| a / b).collect()
 }

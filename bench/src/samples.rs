@@ -1,18 +1,17 @@
-//! What is timed: each input as a ring of sections, of their texts and of their sheets, that differ
-//! in pts_adjustment and the CRC alone, so that no call can be answered from the one before it.
+//! What is timed. A ring is one section in eight variants that differ in pts_adjustment and the CRC
+//! alone, so that no call can be answered from the one before it; the day has many different cues.
 
 pub mod build;
+pub mod day;
+pub mod random;
 pub mod shapes;
 
-use second::sheet::sheet_of;
-use second::text::{section_to_text, text_to_section};
+use crate::cue::Cue;
+use random::Chance;
+use second::text::text_to_section;
 
 /// How many variants a ring has: few enough that the longest sections stay in the fastest cache.
-pub const RING: usize = 8;
-
-/// How many bytes a section has at most, and how many numbers a sheet.
-pub const LONGEST_SECTION: usize = 4_096;
-pub const LONGEST_SHEET: usize = 4_554;
+const RING: u8 = 8;
 
 /// 004's cue: a time signal and one segmentation descriptor.
 const CUE: &str = "/DA0AAAAAAAAAAAABQb+ADAQ6QAeAhxDVUVJQAAAO3/PAAEUrEoICAAAAAAg+2UBNAAANvrtoQ==";
@@ -20,64 +19,91 @@ const CUE: &str = "/DA0AAAAAAAAAAAABQb+ADAQ6QAeAhxDVUVJQAAAO3/PAAEUrEoICAAAAAAg+
 /// 003's insert, with the `+` that its text lost.
 const INSERT: &str = "/DAhAAAAAAAAAP/wEAUAAAHAf+9/fgAg9YDAAAAAAAA25aoh";
 
-pub struct Sample {
+pub struct Ring {
     pub name: String,
     /// How many bytes each section has.
     pub bytes: usize,
-    pub sections: [Vec<u8>; RING],
-    pub texts: [Vec<u8>; RING],
-    pub sheets: [Vec<u64>; RING],
+    pub cues: Vec<Cue>,
 }
 
-impl Sample {
-    fn new(name: impl Into<String>, section: Vec<u8>) -> Sample {
-        let sections: [Vec<u8>; RING] = std::array::from_fn(|turn| variant(&section, turn as u8));
-        let texts = std::array::from_fn(|turn| {
-            section_to_text(&sections[turn], usize::MAX).expect("a section has a text")
+impl Ring {
+    fn new(name: impl Into<String>, section: Vec<u8>) -> Ring {
+        Ring::changed(name, section, |_| {})
+    }
+
+    /// Each variant is changed once more, behind its CRC.
+    fn changed(name: impl Into<String>, section: Vec<u8>, change: fn(&mut Vec<u8>)) -> Ring {
+        let cues = (0..RING).map(|number| {
+            let mut section = variant(&section, number);
+            change(&mut section);
+            Cue::of_section(section)
         });
-        let sheets =
-            std::array::from_fn(|turn| sheet_of(&sections[turn]).expect("the section is accepted"));
-        Sample {
+        Ring {
             name: name.into(),
             bytes: section.len(),
-            sections,
-            texts,
-            sheets,
+            cues: cues.collect(),
         }
     }
 }
 
-/// The five inputs that are timed at every job.
-pub fn inputs() -> Vec<Sample> {
+/// How many of the kinds are accepted and not sealed; they stand first.
+pub const ACCEPTED_KINDS: usize = 9;
+
+/// Each kind of section, the sealed and the refused ones last.
+pub fn kinds() -> Vec<Ring> {
+    let wrong_descriptor = build::known(0, &[0, 0, 1]);
     vec![
-        Sample::new("004's cue", section_of(CUE)),
-        Sample::new("003's insert", section_of(INSERT)),
-        Sample::new("descriptors", build::descriptors(1_000)),
-        Sample::new("descriptors", build::descriptors(4_096)),
-        Sample::new("schedule", build::schedule(100)),
+        Ring::new("null", build::stuffing(20)),
+        Ring::new("insert (003)", section_of(INSERT)),
+        Ring::new("insert, 4 components", build::component_insert(4)),
+        Ring::new("time signal, 1 descriptor (004)", section_of(CUE)),
+        Ring::new("time signal, 3 descriptors", build::signal(3)),
+        Ring::new("time signal, 10 descriptors", build::signal(10)),
+        Ring::new("schedule, 10 events", build::schedule(10)),
+        Ring::new("private, 40 bytes", build::private(40)),
+        Ring::new("unknown command, 40 bytes", build::unknown(40)),
+        Ring::new("sealed, 40 bytes", build::sealed(40)),
+        Ring::changed("refused: CRC (004)", section_of(CUE), |section| {
+            *section.last_mut().expect("a section has bytes") ^= 1;
+        }),
+        Ring::new(
+            "refused: DESCRIPTOR, the third",
+            build::section(
+                0x06,
+                &build::TIME,
+                &[build::two_descriptors(), wrong_descriptor].concat(),
+                0,
+            ),
+        ),
+        Ring::changed("refused: TABLE (004)", section_of(CUE), |section| {
+            section[0] = 0xFD;
+        }),
     ]
 }
 
-/// Sections of the same kind and growing length.
-pub fn lengths() -> Vec<Sample> {
-    [512, 1_024, 2_048, 4_096]
-        .map(|bytes| Sample::new("descriptors", build::descriptors(bytes)))
-        .into()
+/// Time signals full of descriptors of every kind, by length; the shortest has none.
+pub fn lengths() -> Vec<Ring> {
+    let mut rings = vec![Ring::new("null", build::stuffing(20))];
+    for bytes in [55, 100, 200, 500, 1_000, 2_000, 4_096] {
+        rings.push(Ring::new("descriptors", build::descriptors(bytes)));
+    }
+    rings.push(Ring::new("longest sheet", build::longest_sheet()));
+    rings
 }
 
-/// The same for sheets: a splice_null of 20 bytes that stuffing lengthens, time signals with
-/// descriptors, and the section with the longest sheet.
-pub fn sheet_lengths() -> Vec<Sample> {
-    let stuffing = [20, 55, 100, 300, 1_000, 2_000, 4_096]
-        .map(|bytes| Sample::new("stuffing", build::stuffing(bytes)));
-    let descriptors = [55, 100, 300, 1_000, 2_000, 4_096]
-        .map(|bytes| Sample::new("descriptors", build::descriptors(bytes)));
-    let longest = Sample::new("longest sheet", build::longest_sheet());
-    stuffing
-        .into_iter()
-        .chain(descriptors)
-        .chain([longest])
-        .collect()
+/// The same lengths, and inserts of one shape that are all different: a reader whose branches go by
+/// characters cannot learn these.
+pub fn texts() -> Vec<Ring> {
+    let mut rings = lengths();
+    let mut chance = Chance::new(1);
+    let inserts = (0..2_000).map(|_| Cue::of_section(random::timed_insert(&mut chance)));
+    let cues: Vec<_> = inserts.collect();
+    rings.push(Ring {
+        name: "2,000 different inserts".to_string(),
+        bytes: cues[0].section.len(),
+        cues,
+    });
+    rings
 }
 
 fn section_of(text: &str) -> Vec<u8> {

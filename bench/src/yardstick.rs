@@ -1,90 +1,118 @@
 //! The C yardstick, as yardstick.h declares it.
 //! It is compiled apart, by the C compiler, so that its calls cost what the proved library's cost.
 
-use crate::proved::timpanimist_crc32;
+use crate::cue::{Cue, Lent, LONGEST_LINE, LONGEST_TEXT, REFUSED};
 
-type Crc = unsafe extern "C" fn(*const u8, usize) -> u32;
+#[repr(C)]
+struct Stream {
+    held: usize,
+    line: [u8; LONGEST_TEXT + 1],
+}
 
 extern "C" {
+    fn yardstick_prepare();
     fn yardstick_crc32(bytes: *const u8, len: usize) -> u32;
-    fn yardstick_fields(section: *const u8, len: usize) -> u32;
     fn yardstick_accept(section: *const u8, len: usize) -> u32;
-    fn yardstick_accept_by(crc32: Crc, section: *const u8, len: usize) -> u32;
     fn yardstick_text_to_section(text: *const u8, len: usize, out: *mut u8, room: usize) -> i32;
+    fn yardstick_section_to_text(section: *const u8, len: usize, out: *mut u8, room: usize) -> i32;
     fn yardstick_section_to_sheet(
         section: *const u8,
         len: usize,
         out: *mut u64,
         room: usize,
     ) -> i32;
-    fn yardstick_section_to_sheet_by(
-        crc32: Crc,
+    fn yardstick_sheet_to_section(sheet: *const u64, len: usize, out: *mut u8, room: usize) -> i32;
+    fn yardstick_command(section: *const u8, len: usize, out: *mut u64, room: usize) -> i32;
+    fn yardstick_known_descriptor(
         section: *const u8,
         len: usize,
+        n: usize,
         out: *mut u64,
         room: usize,
     ) -> i32;
-    fn yardstick_sheet_to_section(sheet: *const u64, len: usize, out: *mut u8, room: usize) -> i32;
-    fn yardstick_sheet_to_section_by(
-        crc32: Crc,
-        sheet: *const u64,
-        len: usize,
-        out: *mut u8,
-        room: usize,
-    ) -> i32;
+    fn yardstick_break(section: *const u8, len: usize, out: *mut u64, room: usize) -> i32;
+    fn yardstick_effective_time(section: *const u8, len: usize, out: *mut u64, room: usize) -> i32;
+    fn yardstick_line(text: *const u8, len: usize, out: *mut u8) -> usize;
+    fn yardstick_lines(stream: *mut Stream, input: *const u8, len: usize, out: *mut u8) -> usize;
+    fn yardstick_last_line(stream: *const Stream, out: *mut u8) -> usize;
 }
 
-// In every call below, the pointer and the length are those of one live slice.
-
-pub fn crc32(bytes: &[u8]) -> u32 {
-    unsafe { yardstick_crc32(bytes.as_ptr(), bytes.len()) }
+/// Fills the yardstick's tables; called before anything else here.
+pub fn prepare() {
+    unsafe { yardstick_prepare() }
 }
 
-/// 0 or the row that refuses, the CRC left out.
-pub fn fields(section: &[u8]) -> u32 {
-    unsafe { yardstick_fields(section.as_ptr(), section.len()) }
+// In every call below, a pointer and the length behind it are those of one live slice.
+
+pub fn crc32(cue: &Cue, _: &mut Lent) -> u64 {
+    unsafe { yardstick_crc32(cue.section.as_ptr(), cue.section.len()).into() }
 }
 
 /// 0 for accepted, otherwise the row that refuses.
-pub fn accept(section: &[u8]) -> u32 {
-    unsafe { yardstick_accept(section.as_ptr(), section.len()) }
+pub fn accept(cue: &Cue, _: &mut Lent) -> u64 {
+    unsafe { yardstick_accept(cue.section.as_ptr(), cue.section.len()).into() }
 }
 
-/// The same, with the proved library's CRC in the place of its own.
-pub fn accept_by_the_proved_crc(section: &[u8]) -> u32 {
-    unsafe { yardstick_accept_by(timpanimist_crc32, section.as_ptr(), section.len()) }
+/// A function that asks about one part of a cue and writes to one part of the lent memory.
+macro_rules! asking {
+    ($name:ident, $function:ident, $about:ident, $to:ident) => {
+        pub fn $name(cue: &Cue, lent: &mut Lent) -> u64 {
+            let (about, to) = (&cue.$about, &mut lent.$to);
+            wire(unsafe { $function(about.as_ptr(), about.len(), to.as_mut_ptr(), to.len()) })
+        }
+    };
 }
 
-/// How many bytes of `out` were written, or the row that refuses the text.
-pub fn text_to_section(text: &[u8], out: &mut [u8]) -> Result<usize, u32> {
-    let (from, to) = (text.as_ptr(), out.as_mut_ptr());
-    written(unsafe { yardstick_text_to_section(from, text.len(), to, out.len()) })
+asking!(text_to_section, yardstick_text_to_section, text, bytes);
+asking!(section_to_text, yardstick_section_to_text, section, bytes);
+asking!(
+    section_to_sheet,
+    yardstick_section_to_sheet,
+    section,
+    numbers
+);
+asking!(sheet_to_section, yardstick_sheet_to_section, sheet, bytes);
+asking!(command, yardstick_command, section, numbers);
+asking!(break_answer, yardstick_break, section, numbers);
+asking!(effective_time, yardstick_effective_time, section, numbers);
+
+pub fn known_descriptor(cue: &Cue, lent: &mut Lent) -> u64 {
+    let (about, to) = (&cue.section, &mut lent.numbers);
+    wire(unsafe {
+        yardstick_known_descriptor(
+            about.as_ptr(),
+            about.len(),
+            cue.number,
+            to.as_mut_ptr(),
+            to.len(),
+        )
+    })
 }
 
-/// How many numbers of `out` were written, or the row that refuses the section.
-pub fn section_to_sheet(section: &[u8], out: &mut [u64]) -> Result<usize, u32> {
-    let (from, to) = (section.as_ptr(), out.as_mut_ptr());
-    written(unsafe { yardstick_section_to_sheet(from, section.len(), to, out.len()) })
+pub fn line(cue: &Cue, lent: &mut Lent) -> u64 {
+    let to = &mut lent.bytes[..LONGEST_LINE];
+    unsafe { yardstick_line(cue.text.as_ptr(), cue.text.len(), to.as_mut_ptr()) as u64 }
 }
 
-/// The same, with the proved library's CRC in the place of its own.
-pub fn section_to_sheet_by_the_proved_crc(section: &[u8], out: &mut [u64]) -> Result<usize, u32> {
-    let (crc, from, to) = (timpanimist_crc32, section.as_ptr(), out.as_mut_ptr());
-    written(unsafe { yardstick_section_to_sheet_by(crc, from, section.len(), to, out.len()) })
+/// The answers to a stream that comes in these pieces.
+pub fn stream<'a>(pieces: impl Iterator<Item = &'a [u8]>) -> Vec<u8> {
+    let mut stream = Stream {
+        held: 0,
+        line: [0; LONGEST_TEXT + 1],
+    };
+    let mut answers = Vec::new();
+    for piece in pieces {
+        let mut out = vec![0; 4 * piece.len() + LONGEST_LINE];
+        let (from, to) = (piece.as_ptr(), out.as_mut_ptr());
+        let count = unsafe { yardstick_lines(&mut stream, from, piece.len(), to) };
+        answers.extend(&out[..count]);
+    }
+    let mut line = [0; LONGEST_LINE];
+    let count = unsafe { yardstick_last_line(&stream, line.as_mut_ptr()) };
+    answers.extend(&line[..count]);
+    answers
 }
 
-/// How many bytes of `out` were written, or the row that refuses the sheet.
-pub fn sheet_to_section(sheet: &[u64], out: &mut [u8]) -> Result<usize, u32> {
-    let (from, to) = (sheet.as_ptr(), out.as_mut_ptr());
-    written(unsafe { yardstick_sheet_to_section(from, sheet.len(), to, out.len()) })
-}
-
-/// The same, with the proved library's CRC in the place of its own.
-pub fn sheet_to_section_by_the_proved_crc(sheet: &[u64], out: &mut [u8]) -> Result<usize, u32> {
-    let (crc, from, to) = (timpanimist_crc32, sheet.as_ptr(), out.as_mut_ptr());
-    written(unsafe { yardstick_sheet_to_section_by(crc, from, sheet.len(), to, out.len()) })
-}
-
-fn written(answer: i32) -> Result<usize, u32> {
-    usize::try_from(answer).map_err(|_| answer.unsigned_abs())
+fn wire(answer: i32) -> u64 {
+    u64::try_from(answer).unwrap_or_else(|_| REFUSED + u64::from(answer.unsigned_abs()))
 }

@@ -1,7 +1,13 @@
-//! Sections put together from bytes, every field as SCTE 35 has it: the long ones that are timed,
-//! and the parts of which others are made.
+//! Sections put together from bytes, every field as SCTE 35 has it: those that are timed, and the
+//! parts of which others are made.
 
 use second::crc::crc32;
+
+/// splice_time() with a time.
+pub const TIME: [u8; 5] = [0xFE, 0x00, 0x30, 0x10, 0xE9];
+
+/// unique_program_id, avail_num and avails_expected.
+const AVAILS: [u8; 4] = [0x00, 0x10, 1, 2];
 
 /// The descriptors that a long loop repeats, each tag and both forms of a segmentation among them.
 pub fn kinds() -> Vec<Vec<u8>> {
@@ -32,14 +38,13 @@ pub fn known(tag: u8, body: &[u8]) -> Vec<u8> {
     descriptor(tag, b"CUEI", body)
 }
 
-fn descriptor(tag: u8, identifier: &[u8; 4], body: &[u8]) -> Vec<u8> {
+pub fn descriptor(tag: u8, identifier: &[u8; 4], body: &[u8]) -> Vec<u8> {
     [&[tag, 4 + body.len() as u8], &identifier[..], body].concat()
 }
 
 /// A time signal of that many bytes: descriptors until the next would not fit, and stuffing.
 pub fn descriptors(bytes: usize) -> Vec<u8> {
-    let time = [0xFE, 0x00, 0x30, 0x10, 0xE9];
-    let room = bytes - section(0x06, &time, &[], 0).len();
+    let room = bytes - section(0x06, &TIME, &[], 0).len();
     let kinds = kinds();
     let mut filled = Vec::new();
     for kind in kinds.iter().cycle() {
@@ -48,7 +53,51 @@ pub fn descriptors(bytes: usize) -> Vec<u8> {
         }
         filled.extend(kind);
     }
-    section(0x06, &time, &filled, room - filled.len())
+    section(0x06, &TIME, &filled, room - filled.len())
+}
+
+/// A time signal with that many descriptors.
+pub fn signal(count: usize) -> Vec<u8> {
+    let kinds = kinds();
+    let filled: Vec<u8> = kinds
+        .iter()
+        .cycle()
+        .take(count)
+        .flatten()
+        .copied()
+        .collect();
+    section(0x06, &TIME, &filled, 0)
+}
+
+/// A segmentation descriptor that opens a break, and an avail descriptor.
+pub fn two_descriptors() -> Vec<u8> {
+    kinds()[..2].concat()
+}
+
+/// An insert out of the network by that many components, each with a time, and a duration.
+pub fn component_insert(components: u8) -> Vec<u8> {
+    let times = (0..components).flat_map(|tag| [&[tag][..], &TIME].concat());
+    let head = [0, 0, 1, 0xC0, 0x7F, 0xAF, components];
+    let command = [&head[..], &times.collect::<Vec<_>>(), &TIME, &AVAILS].concat();
+    section(0x05, &command, &[], 0)
+}
+
+/// A private command of that many bytes behind its identifier.
+pub fn private(bytes: usize) -> Vec<u8> {
+    section(0xFF, &[&b"ABCD"[..], &vec![0x5A; bytes]].concat(), &[], 0)
+}
+
+/// A command of a type that the standard does not have.
+pub fn unknown(bytes: usize) -> Vec<u8> {
+    section(0x20, &vec![0x5A; bytes], &[], 0)
+}
+
+/// A sealed section with that many bytes where its command was.
+pub fn sealed(bytes: usize) -> Vec<u8> {
+    let mut sealed = section(0xAA, &vec![0x55; bytes], &[], 0);
+    sealed[4] |= 0x80;
+    put_crc(&mut sealed);
+    sealed
 }
 
 /// A splice_null of that many bytes, all but 20 of them stuffing.
@@ -68,7 +117,7 @@ pub fn longest_sheet() -> Vec<u8> {
 /// A splice_schedule of that many events: with a duration, without, cancelled, and by components.
 pub fn schedule(events: u8) -> Vec<u8> {
     let time = [0x4F, 0x3A, 0x91, 0x07];
-    let avails = [0x00, 0x10, 1, 2];
+    let avails = AVAILS;
     let duration = [0xFE, 0x00, 0x29, 0x32, 0xE0];
     let components = [[1].as_slice(), &time, &[2], &time].concat();
     let mut command = vec![events];

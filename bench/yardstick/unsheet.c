@@ -1,7 +1,7 @@
 /* The yardstick's section of a sheet. Each function takes the numbers of one structure, checks
    them and puts its bytes; false says that they are no sheet. */
 #include "yardstick.h"
-#include "yardstick_parts.h"
+#include "parts.h"
 
 #include <string.h>
 
@@ -426,8 +426,7 @@ static bool fill(struct copy *copy)
     return bytes(copy, (size_t)(copy->end - copy->at));
 }
 
-int32_t yardstick_sheet_to_section_by(uint32_t (*crc32)(const uint8_t *, size_t),
-                                      const uint64_t *sheet, size_t len, uint8_t *out, size_t room)
+int32_t yardstick_sheet_to_section(const uint64_t *sheet, size_t len, uint8_t *out, size_t room)
 {
     uint8_t section[LONGEST_SECTION];
     struct copy copy = {sheet, sheet + len, section, section + LONGEST_SECTION - 4};
@@ -438,12 +437,7 @@ int32_t yardstick_sheet_to_section_by(uint32_t (*crc32)(const uint8_t *, size_t)
         return -ROOM;
     section[1] |= (uint8_t)((count - 3) >> 8);
     section[2] = (uint8_t)(count - 3);
-    write_32(copy.to, crc32(section, before));
+    write_32(copy.to, yardstick_crc32(section, before));
     memcpy(out, section, count);
     return (int32_t)count;
-}
-
-int32_t yardstick_sheet_to_section(const uint64_t *sheet, size_t len, uint8_t *out, size_t room)
-{
-    return yardstick_sheet_to_section_by(yardstick_crc32, sheet, len, out, room);
 }

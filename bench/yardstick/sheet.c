@@ -1,7 +1,7 @@
 /* The yardstick's sheet of a section. The section is accepted first, so that nothing is checked
    here: each function puts the numbers of one structure and moves behind its bytes. */
 #include "yardstick.h"
-#include "yardstick_parts.h"
+#include "parts.h"
 
 #include <string.h>
 
@@ -10,22 +10,6 @@ struct copy {
     const uint8_t *at;
     uint64_t *to;
 };
-
-static uint64_t big_endian_16(const uint8_t *at)
-{
-    return (uint64_t)at[0] << 8 | at[1];
-}
-
-static uint64_t big_endian_40(const uint8_t *at)
-{
-    return (uint64_t)at[0] << 32 | big_endian_32(at + 1);
-}
-
-/* The last 33 bits of five bytes. */
-static uint64_t clock_33(const uint8_t *at)
-{
-    return (uint64_t)(at[0] & 1) << 32 | big_endian_32(at + 1);
-}
 
 static void put(struct copy *copy, uint64_t number)
 {
@@ -220,7 +204,7 @@ static void segmentation(struct copy *copy, const uint8_t *end)
 static void time_descriptor(struct copy *copy)
 {
     const uint8_t *at = copy->at;
-    put(copy, big_endian_16(at) << 32 | big_endian_32(at + 2));
+    put(copy, (uint64_t)big_endian_16(at) << 32 | big_endian_32(at + 2));
     put(copy, big_endian_32(at + 6));
     put(copy, big_endian_16(at + 10));
     copy->at += 12;
@@ -307,7 +291,7 @@ static size_t fill(const uint8_t *section, size_t len, uint64_t *out)
 {
     struct copy copy = {section, out};
     header(&copy);
-    if (!(section[4] & 0x80)) {
+    if (!is_sealed(section)) {
         bytes(&copy, 1);
         command(&copy, section[13], big_endian_16(section + 11) & 0x0FFF);
         size_t loop_length = big_endian_16(copy.at);
@@ -319,11 +303,9 @@ static size_t fill(const uint8_t *section, size_t len, uint64_t *out)
     return (size_t)(copy.to - out);
 }
 
-int32_t yardstick_section_to_sheet_by(uint32_t (*crc32)(const uint8_t *, size_t),
-                                      const uint8_t *section, size_t len, uint64_t *out,
-                                      size_t room)
+int32_t yardstick_section_to_sheet(const uint8_t *section, size_t len, uint64_t *out, size_t room)
 {
-    uint32_t row = yardstick_accept_by(crc32, section, len);
+    uint32_t row = yardstick_accept(section, len);
     if (row != ACCEPTED)
         return -(int32_t)row;
     if (room >= LONGEST_SHEET)
@@ -335,9 +317,4 @@ int32_t yardstick_section_to_sheet_by(uint32_t (*crc32)(const uint8_t *, size_t)
         return -ROOM;
     memcpy(out, sheet, count * sizeof *sheet);
     return (int32_t)count;
-}
-
-int32_t yardstick_section_to_sheet(const uint8_t *section, size_t len, uint64_t *out, size_t room)
-{
-    return yardstick_section_to_sheet_by(yardstick_crc32, section, len, out, room);
 }

@@ -1,59 +1,40 @@
-/* The yardstick: CRC by bytes, base64 by four characters, the fields by plain code over bytes.
+/* The yardstick's acceptance: CRC by slicing-by-8, the fields by plain code over bytes.
    A function of a field answers the place behind it, or NULL where it breaks the grammar. */
 #include "yardstick.h"
-#include "yardstick_parts.h"
-#include "yardstick_tables.h"
+#include "parts.h"
 
-enum { LONGEST_TEXT = 5464, LONGEST_LENGTH = LONGEST_SECTION - 3 };
+enum { LONGEST_LENGTH = LONGEST_SECTION - 3 };
 
-uint32_t yardstick_crc32(const uint8_t *bytes, size_t len)
+/* crc_table[k][b] is the register after the byte b and k zero bytes. */
+static uint32_t crc_table[8][256];
+
+void yardstick_prepare(void)
+{
+    for (uint32_t byte = 0; byte < 256; byte++) {
+        uint32_t crc = byte << 24;
+        for (int bit = 0; bit < 8; bit++)
+            crc = crc << 1 ^ (crc >> 31 ? 0x04C11DB7 : 0);
+        crc_table[0][byte] = crc;
+    }
+    for (int k = 1; k < 8; k++)
+        for (int byte = 0; byte < 256; byte++) {
+            uint32_t crc = crc_table[k - 1][byte];
+            crc_table[k][byte] = crc << 8 ^ crc_table[0][crc >> 24];
+        }
+}
+
+uint32_t yardstick_crc32(const uint8_t *at, size_t len)
 {
     uint32_t crc = 0xFFFFFFFF;
-    for (size_t i = 0; i < len; i++)
-        crc = crc << 8 ^ crc_of_byte[crc >> 24 ^ bytes[i]];
-    return crc;
-}
-
-static uint32_t group(const uint8_t *text)
-{
-    return (uint32_t)sextet_of[text[0]] << 18 | (uint32_t)sextet_of[text[1]] << 12 |
-           (uint32_t)sextet_of[text[2]] << 6 | sextet_of[text[3]];
-}
-
-int32_t yardstick_text_to_section(const uint8_t *text, size_t len, uint8_t *out, size_t room)
-{
-    if (len % 4 != 0 || len > LONGEST_TEXT)
-        return -TEXTLEN;
-    if (len == 0)
-        return 0;
-
-    size_t padding = text[len - 1] != '=' ? 0 : text[len - 2] != '=' ? 1 : 2;
-    size_t before = len - padding;
-    unsigned seen = 0;
-    for (size_t i = 0; i < before; i++)
-        seen |= sextet_of[text[i]];
-    if (seen > 63)
-        return -TEXTCHAR;
-
-    unsigned spare = padding == 0 ? 0 : padding == 1 ? 3 : 15;
-    if ((sextet_of[text[before - 1]] & spare) != 0)
-        return -TEXTBITS;
-    size_t count = len / 4 * 3 - padding;
-    if (room < count)
-        return -ROOM;
-
-    size_t whole = before / 4;
-    for (size_t i = 0; i < whole; i++, text += 4, out += 3) {
-        uint32_t bits = group(text);
-        out[0] = (uint8_t)(bits >> 16);
-        out[1] = (uint8_t)(bits >> 8);
-        out[2] = (uint8_t)bits;
+    for (; len >= 8; at += 8, len -= 8) {
+        crc ^= big_endian_32(at);
+        crc = crc_table[7][crc >> 24] ^ crc_table[6][crc >> 16 & 0xFF] ^
+              crc_table[5][crc >> 8 & 0xFF] ^ crc_table[4][crc & 0xFF] ^ crc_table[3][at[4]] ^
+              crc_table[2][at[5]] ^ crc_table[1][at[6]] ^ crc_table[0][at[7]];
     }
-    if (padding > 0)
-        out[0] = (uint8_t)(sextet_of[text[0]] << 2 | sextet_of[text[1]] >> 4);
-    if (padding == 1)
-        out[1] = (uint8_t)(sextet_of[text[1]] << 4 | sextet_of[text[2]] >> 2);
-    return (int32_t)count;
+    while (len-- > 0)
+        crc = crc << 8 ^ crc_table[0][crc >> 24 ^ *at++];
+    return crc;
 }
 
 static bool has(const uint8_t *at, const uint8_t *end, size_t count)
@@ -149,7 +130,7 @@ static const uint8_t *splice_schedule(const uint8_t *at, const uint8_t *end)
 static const uint8_t *command(const uint8_t *section, const uint8_t *end)
 {
     const uint8_t *at = section + 14;
-    unsigned length = (section[11] & 0x0Fu) << 8 | section[12];
+    unsigned length = big_endian_16(section + 11) & 0x0FFF;
     bool sized = length != UNSTATED;
     if (sized) {
         if (!has(at, end, length))
@@ -249,18 +230,18 @@ static enum row frame(const uint8_t *section, size_t len)
         return TABLE;
     if (section[1] & 0xC0)
         return SYNTAX;
-    size_t section_length = (section[1] & 0x0Fu) << 8 | section[2];
+    size_t section_length = big_endian_16(section + 1) & 0x0FFF;
     if (section_length > LONGEST_LENGTH || section_length + 3 != len)
         return SIZE;
     return ACCEPTED;
 }
 
 /* Rows 6 to 10. */
-static enum row inside(const uint8_t *section, size_t len)
+static enum row inside(const uint8_t *section, size_t len, struct loop *loop)
 {
     if (section[3] != 0)
         return VERSION;
-    if (section[4] & 0x80)
+    if (is_sealed(section))
         return len < 24 ? CRYPT : ACCEPTED;
 
     const uint8_t *end = section + len - 4;
@@ -269,37 +250,25 @@ static enum row inside(const uint8_t *section, size_t len)
         return COMMAND;
     if (!has(at, end, 2))
         return LOOP;
-    size_t loop_length = (size_t)at[0] << 8 | at[1];
-    const uint8_t *stuffing = skip(at + 2, end, loop_length);
-    if (!stuffing)
+    loop->at = at + 2;
+    loop->end = skip(at + 2, end, big_endian_16(at));
+    if (!loop->end)
         return LOOP;
-    return descriptors(at + 2, stuffing) ? ACCEPTED : DESCRIPTOR;
+    return descriptors(loop->at, loop->end) ? ACCEPTED : DESCRIPTOR;
 }
 
-uint32_t yardstick_fields(const uint8_t *section, size_t len)
-{
-    enum row row = frame(section, len);
-    return row != ACCEPTED ? row : inside(section, len);
-}
-
-static inline uint32_t accept(uint32_t (*crc32)(const uint8_t *, size_t), const uint8_t *section,
-                              size_t len)
+enum row yardstick_open(const uint8_t *section, size_t len, struct loop *loop)
 {
     enum row row = frame(section, len);
     if (row != ACCEPTED)
         return row;
-    if (crc32(section, len) != 0)
+    if (yardstick_crc32(section, len) != 0)
         return CRC;
-    return inside(section, len);
+    return inside(section, len, loop);
 }
 
 uint32_t yardstick_accept(const uint8_t *section, size_t len)
 {
-    return accept(yardstick_crc32, section, len);
-}
-
-uint32_t yardstick_accept_by(uint32_t (*crc32)(const uint8_t *, size_t), const uint8_t *section,
-                             size_t len)
-{
-    return accept(crc32, section, len);
+    struct loop loop;
+    return yardstick_open(section, len, &loop);
 }
