@@ -20,7 +20,8 @@ use Rattle.descriptor_reading.specs.declared.answers.DtmfChar.{DtmfChar}
 use Rattle.descriptor_reading.specs.declared.answers.SegmentationComponent.{SegmentationComponent}
 use Rattle.descriptor_reading.specs.declared.answers.AudioComponent.{AudioComponent}
 use Rattle.descriptor_reading.specs.declared.answers.Upid.{Upid}
-use Rattle.descriptor_reading.specs.Descriptor.{knownCursors, knownTrace, descriptorOf, dtmfCharOf, segmentationComponentOf, audioComponentOf}
+use Rattle.known_walk.specs.Known.{knownCursors, knownTrace}
+use Rattle.descriptor_reading.specs.Descriptor.{descriptorOf, dtmfCharOf, segmentationComponentOf, audioComponentOf}
 use Rattle.descriptor_reading.specs.Descriptor as Says′
 
 -- the answer of an open section, with the cursor of its first descriptor, or the refusal of one that cannot be asked

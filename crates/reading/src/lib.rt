@@ -70,7 +70,7 @@ pub fn known_count(section: &[u8]) -> KnownCount
     ensures { λ r. ⌜ r ≡ says.knownCount (now (section .entry)) ⌝ }
 {
     match section::open(section) {
-        Opened::Open(cursor) => KnownCount::Count(descriptor_reading::known_count(section, cursor)),
+        Opened::Open(cursor) => KnownCount::Count(known_walk::count(section, cursor)),
         Opened::Refused(refusal) => KnownCount::Refused(refusal),
     }
 }
@@ -90,7 +90,7 @@ pub fn dtmf_char(section: &[u8], n: usize, m: usize) -> DtmfChar
     ensures { λ r. ⌜ r ≡ says.dtmfChar (now (section .entry)) n m ⌝ }
 {
     match section::open(section) {
-        Opened::Open(cursor) => descriptor_reading::dtmf_char(section, cursor, n, m),
+        Opened::Open(cursor) => descriptor_lists::dtmf_char(section, cursor, n, m),
         Opened::Refused(refusal) => DtmfChar::Refused(refusal),
     }
 }
@@ -100,7 +100,7 @@ pub fn segmentation_component(section: &[u8], n: usize, m: usize) -> Segmentatio
     ensures { λ r. ⌜ r ≡ says.segmentationComponent (now (section .entry)) n m ⌝ }
 {
     match section::open(section) {
-        Opened::Open(cursor) => descriptor_reading::segmentation_component(section, cursor, n, m),
+        Opened::Open(cursor) => descriptor_lists::segmentation_component(section, cursor, n, m),
         Opened::Refused(refusal) => SegmentationComponent::Refused(refusal),
     }
 }
@@ -110,7 +110,7 @@ pub fn audio_component(section: &[u8], n: usize, m: usize) -> AudioComponent
     ensures { λ r. ⌜ r ≡ says.audioComponent (now (section .entry)) n m ⌝ }
 {
     match section::open(section) {
-        Opened::Open(cursor) => descriptor_reading::audio_component(section, cursor, n, m),
+        Opened::Open(cursor) => descriptor_lists::audio_component(section, cursor, n, m),
         Opened::Refused(refusal) => AudioComponent::Refused(refusal),
     }
 }
