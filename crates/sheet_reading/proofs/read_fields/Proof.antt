@@ -1,4 +1,4 @@
--- `sheet::read_fields` meets its contract. The loop's invariant: putting the fields that are left gives what putting all of them gives.
+-- `sheet_reading::read_fields` meets its contract. The loop's invariant: putting the fields that are left gives what putting all of them gives.
 -- Assumes nothing.
 use mathlib.Core.Path.{_≡_, refl, sym, ap, _∙_}
 use mathlib.Core.List.{List, _∷_}
@@ -7,9 +7,9 @@ use native.Mathlib.Omega.{arith}
 use lib.ListN.{length, getD, set, length-set}
 use Rattle.bits.specs.Bits.{readAll}
 use Rattle.layout.specs.Layout.{put}
-use Rattle.sheet.proofs.Spans.{span, span-next, span-none}
-use Rattle.sheet.proofs.read_fields.Statement.{statement}
-use Rattle.sheet.proofs.read_fields.Tie as tie
+use Rattle.sheet_reading.proofs.Spans.{span, span-next, span-none}
+use Rattle.sheet_reading.proofs.read_fields.Statement.{statement}
+use Rattle.sheet_reading.proofs.read_fields.Tie as tie
 
 abbrev Inv-loop : tie.InvT-loop
 Inv-loop section widths from to at out₀ place₀ i₀ out place i =

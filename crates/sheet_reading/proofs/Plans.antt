@@ -23,8 +23,8 @@ use Rattle.layout.specs.Layout.{plan, held, source, Plan, total, put, advance, 
 use Rattle.layout.proofs.Follows.{traceWidths, length-widths, total-size, put-append, Tells}
 use Rattle.layout.proofs.Planned.{Told, start}
 use Rattle.layout.proofs.Shape.{Thin}
-use Rattle.sheet.specs.Sheet.{sheetOf}
-use Rattle.sheet.proofs.Trace.{Whole, whole, after, first, last, body, sheet-numbers, first-spans, last-spans, first-thin, last-thin, body-spans, body-thin, body-size, last-size, sheet-length, body-length}
+use Rattle.sheet_reading.specs.SheetOf.{sheetOf}
+use Rattle.sheet_reading.proofs.Trace.{Whole, whole, after, first, last, body, sheet-numbers, first-spans, last-spans, first-thin, last-thin, body-spans, body-thin, body-size, last-size, sheet-length, body-length}
 
 -- ---- lists
 

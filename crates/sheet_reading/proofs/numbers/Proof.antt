@@ -1,4 +1,4 @@
--- `sheet::numbers` meets its contract: past the room the fields were put in two parts.
+-- `sheet_reading::numbers` meets its contract: past the room the fields were put in two parts.
 -- Assumes nothing.
 use mathlib.Core.Path.{ap, _∙_}
 use mathlib.Core.List.{List}
@@ -8,11 +8,11 @@ use lib.ListN.{length, take, drop}
 use Rattle.bits.specs.Bits.{readAll}
 use Rattle.units.specs.declared.refusals.Written.the-variants.{Count}
 use Rattle.layout.specs.Layout.{put}
-use Rattle.sheet.proofs.Plans.{Laid, laid-out, sheet-put}
-use Rattle.sheet.proofs.Rows.{no-room, sheet-written}
+use Rattle.sheet_reading.proofs.Plans.{Laid, laid-out, sheet-put}
+use Rattle.sheet_reading.proofs.SheetRows.{no-room, sheet-written}
 use borrow.Author.Needs.{needs}
-use Rattle.sheet.proofs.numbers.Statement.{statement}
-use Rattle.sheet.proofs.numbers.Tie as tie
+use Rattle.sheet_reading.proofs.numbers.Statement.{statement}
+use Rattle.sheet_reading.proofs.numbers.Tie as tie
 
 slice-aggregate-plan : tie.Need-slice-aggregate-plan
 slice-aggregate-plan c = search needs

@@ -19,7 +19,7 @@ use Rattle.section.specs.declared.Verdict.the-variants.{Accepted}
 use Rattle.section.specs.Accept.{acceptOf}
 use Rattle.section.proofs.Accepted.{Allowed, accepted}
 use Rattle.section.proofs.First.{has-trace}
-use Rattle.sheet.specs.Sheet.{sectionTrace, sheetOf, unsized}
+use Rattle.sheet_reading.specs.SheetOf.{sectionTrace, sheetOf, unsized}
 
 pub length-numbers : (t : Trace) → length (numbers t) ≡ length t
 unfolding numbers

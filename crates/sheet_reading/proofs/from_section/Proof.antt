@@ -1,13 +1,13 @@
--- `sheet::from_section` meets its contract: a refusal is that of its row, and an accepted section has memory for its fields.
+-- `sheet_reading::from_section` meets its contract: a refusal is that of its row, and an accepted section has memory for its fields.
 -- Assumes nothing.
 use mathlib.Core.Path.{sym, _∙_}
 use native.Mathlib.Omega.{arith}
 use lib.ListN.{length}
 use Rattle.section.proofs.Accepted.{accepted}
-use Rattle.sheet.proofs.Rows.{not-accepted}
+use Rattle.sheet_reading.proofs.SheetRows.{not-accepted}
 use borrow.Author.Needs.{needs}
-use Rattle.sheet.proofs.from_section.Statement.{statement}
-use Rattle.sheet.proofs.from_section.Tie as tie
+use Rattle.sheet_reading.proofs.from_section.Statement.{statement}
+use Rattle.sheet_reading.proofs.from_section.Tie as tie
 
 accept-requires : tie.Need-accept-requires
 accept-requires c κs = search needs
