@@ -40,8 +40,8 @@ use Rattle.descriptor_reading.specs.Descriptor.{descriptorOf, dtmfCharOf, segme
 use Rattle.descriptor_reading.specs.Descriptor as Descriptors
 use Rattle.known_walk.proofs.EachStands.{each-stands}
 use Rattle.reading.specs.Reading as Asks
-use Rattle.reading.specs.Reading.{asked}
-use Rattle.reading.proofs.Asked.{when-open, when-refused}
+use Rattle.command_questions.specs.Questions.{asked}
+use Rattle.command_questions.proofs.Asked.{when-open, when-refused}
 use Rattle.house.specs.declared.answers.Break.{Break}
 use Rattle.house.specs.declared.answers.EffectiveTime.{EffectiveTime}
 use Rattle.house.specs.declared.answers.Dvb.{Dvb}

@@ -16,7 +16,7 @@ use Rattle.known_walk.specs.Known.{knownCursors}
 use Rattle.descriptor_reading.specs.Descriptor.{upidOf}
 use Rattle.known_walk.proofs.EachStands.{AllStand, each-stands}
 use Rattle.descriptor_reading.proofs.UpidPart.{standing-within}
-use Rattle.reading.proofs.Asked.{when-open, when-refused}
+use Rattle.command_questions.proofs.Asked.{when-open, when-refused}
 use Rattle.house.specs.declared.answers.Label.{Label}
 use Rattle.house.specs.House.{labelled, labelAt, billLabel}
 

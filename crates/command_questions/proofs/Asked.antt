@@ -6,7 +6,7 @@ use Prim.Native.Nat.{ℕ}
 use Rattle.units.specs.declared.refusals.Refusal.{Refusal}
 use Rattle.descriptors.specs.declared.Cursor.{Cursor}
 use Rattle.section.specs.declared.Opened.{Opened}
-use Rattle.reading.specs.Reading.{asked}
+use Rattle.command_questions.specs.Questions.{asked}
 
 pub when-open : {A : Type 0} (refuse : Refusal → A) (answer : Cursor → A) {o : Opened} (c : Cursor) → o ≡ Opened.Open c → asked o refuse answer ≡ answer c
 unfolding asked

@@ -1,11 +1,11 @@
--- `reading::private_byte` meets its contract: an open section is asked, any other is refused.
+-- `command_questions::private_byte` meets its contract: an open section is asked, any other is refused.
 -- Assumes nothing.
 use mathlib.Core.Path.{sym, _∙_}
 use borrow.Author.Needs.{needs}
-use Rattle.reading.specs.Reading.{privateByte}
-use Rattle.reading.proofs.Asked.{when-open, when-refused}
-use Rattle.reading.proofs.private_byte.Statement.{statement}
-use Rattle.reading.proofs.private_byte.Tie as tie
+use Rattle.command_questions.specs.Questions.{privateByte}
+use Rattle.command_questions.proofs.Asked.{when-open, when-refused}
+use Rattle.command_questions.proofs.private_byte.Statement.{statement}
+use Rattle.command_questions.proofs.private_byte.Tie as tie
 
 open-requires : tie.Need-open-requires
 open-requires c κs = search needs

@@ -1,11 +1,11 @@
--- `reading::schedule_event` meets its contract: an open section is asked, any other is refused.
+-- `command_questions::schedule_event` meets its contract: an open section is asked, any other is refused.
 -- Assumes nothing.
 use mathlib.Core.Path.{sym, _∙_}
 use borrow.Author.Needs.{needs}
-use Rattle.reading.specs.Reading.{scheduleEvent}
-use Rattle.reading.proofs.Asked.{when-open, when-refused}
-use Rattle.reading.proofs.schedule_event.Statement.{statement}
-use Rattle.reading.proofs.schedule_event.Tie as tie
+use Rattle.command_questions.specs.Questions.{scheduleEvent}
+use Rattle.command_questions.proofs.Asked.{when-open, when-refused}
+use Rattle.command_questions.proofs.schedule_event.Statement.{statement}
+use Rattle.command_questions.proofs.schedule_event.Tie as tie
 
 open-requires : tie.Need-open-requires
 open-requires c κs = search needs
