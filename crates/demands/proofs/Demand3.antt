@@ -35,12 +35,13 @@ use Rattle.descriptor_reading.specs.declared.answers.DtmfChar.{DtmfChar}
 use Rattle.descriptor_reading.specs.declared.answers.SegmentationComponent.{SegmentationComponent}
 use Rattle.descriptor_reading.specs.declared.answers.AudioComponent.{AudioComponent}
 use Rattle.descriptor_reading.specs.declared.answers.Upid.{Upid}
-use Rattle.descriptor_reading.specs.Descriptor.{knownCursors, numbered, knownTrace, descriptorOf, dtmfCharOf, segmentationComponentOf, audioComponentOf}
+use Rattle.known_walk.specs.Known.{knownCursors, numbered, knownTrace}
+use Rattle.descriptor_reading.specs.Descriptor.{descriptorOf, dtmfCharOf, segmentationComponentOf, audioComponentOf}
 use Rattle.descriptor_reading.specs.Descriptor as Descriptors
-use Rattle.descriptor_reading.proofs.EachStands.{each-stands}
+use Rattle.known_walk.proofs.EachStands.{each-stands}
 use Rattle.reading.specs.Reading as Asks
-use Rattle.reading.specs.Reading.{asked}
-use Rattle.reading.proofs.Asked.{when-open, when-refused}
+use Rattle.command_questions.specs.Questions.{asked}
+use Rattle.command_questions.proofs.Asked.{when-open, when-refused}
 use Rattle.house.specs.declared.answers.Break.{Break}
 use Rattle.house.specs.declared.answers.EffectiveTime.{EffectiveTime}
 use Rattle.house.specs.declared.answers.Dvb.{Dvb}

@@ -18,12 +18,13 @@ use Rattle.section.specs.declared.Opened.{Opened}
 use Rattle.section.specs.First.{firstCursor, openOf}
 use Rattle.descriptor_reading.specs.declared.answers.Descriptor.{Descriptor}
 use Rattle.descriptor_reading.specs.declared.answers.Upid.{Upid}
-use Rattle.descriptor_reading.specs.Descriptor.{knownCursors, numbered, knownTrace, isTag, descriptorOf, through, upidOf}
+use Rattle.known_walk.specs.Known.{knownCursors, numbered, knownTrace}
+use Rattle.descriptor_reading.specs.Descriptor.{isTag, descriptorOf, through, upidOf}
 use Rattle.descriptor_reading.specs.Descriptor as Says
-use Rattle.descriptor_reading.proofs.EachStands.{AllStand}
+use Rattle.known_walk.proofs.EachStands.{AllStand}
 use Rattle.descriptor_reading.proofs.UpidPart.{standing-part}
 use Rattle.reading.specs.Reading.{upid, partOf, upidBytes}
-use Rattle.reading.proofs.Asked.{when-open}
+use Rattle.command_questions.proofs.Asked.{when-open}
 use Rattle.reading.proofs.UpidBytes.{part-values}
 use Rattle.house.specs.declared.answers.Label.{Label}
 use Rattle.house.specs.House.{readAt, labelled, labelAt, labelOf}

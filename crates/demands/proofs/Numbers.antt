@@ -27,8 +27,8 @@ use Rattle.section.specs.declared.Verdict.the-variants.{Accepted}
 use Rattle.section.specs.Accept.{the, acceptOf}
 use Rattle.section.proofs.Accepted.{accepted}
 use Rattle.sheet.specs.Sheet.{sectionTrace}
-use Rattle.sheet.proofs.Trace.{first, last}
-use Rattle.sheet.proofs.Trace as header
+use Rattle.sheet_reading.proofs.Trace.{first, last}
+use Rattle.sheet_reading.proofs.Trace as header
 use Rattle.command_reading.specs.Command.{commandReading, typed, commandTrace}
 use Rattle.demands.specs.Same.{left}
 use Rattle.demands.proofs.Walked.{blanksAt}

@@ -26,9 +26,9 @@ use Rattle.section.specs.First.{firstCursor}
 use Rattle.section.proofs.Accepted.{accepted}
 use Rattle.section.proofs.First.{Laid, first-trace, has-trace}
 use Rattle.sheet.specs.Sheet.{sectionTrace}
-use Rattle.sheet.proofs.Trace.{first, last}
-use Rattle.descriptor_reading.specs.Descriptor.{knownAmong, knownCursors}
-use Rattle.descriptor_reading.proofs.Known.{in-section}
+use Rattle.sheet_reading.proofs.Trace.{first, last}
+use Rattle.known_walk.specs.Known.{knownAmong, knownCursors}
+use Rattle.known_walk.proofs.KnownAmong.{in-section}
 use Rattle.demands.specs.Same.{without, parts, own, front, descriptors}
 use Rattle.demands.proofs.Walked.{without-past, without-none, without-each, parts-past, walked-read, none-stuffing, blanksAt, loop-parts, own-blanks, all-blanked}
 

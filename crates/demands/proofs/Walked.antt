@@ -25,7 +25,7 @@ use Rattle.descriptors.specs.declared.Step.{Step}
 use Rattle.descriptors.specs.Walk.{byTag, kindOf, stepOf}
 use Rattle.descriptors.specs.Loop.{onStep, walk, walked, traceAt, tracesAt}
 use Rattle.descriptors.proofs.Walk.{stepped}
-use Rattle.descriptor_reading.specs.Descriptor.{isKnown, knownAmong}
+use Rattle.known_walk.specs.Known.{isKnown, knownAmong}
 use Rattle.descriptor_reading.proofs.Told.{not-true}
 use Rattle.demands.specs.Same.{without, parts, isOwn, own}
 

@@ -1,6 +1,3 @@
-pub mod Stands
-pub mod Known
-pub mod Placed
 pub mod Room
 pub mod Rows
 pub mod SegmentationNames
@@ -9,6 +6,4 @@ pub mod SegmentationTold
 pub mod Small
 pub mod Tags
 pub mod Told
-pub mod EachStands
 pub mod UpidPart
-pub mod Standing

@@ -16,7 +16,7 @@ use Rattle.grammar.proofs.Telling.{Tells, rows, alike, over, many}
 use Rattle.grammar.proofs.Names.{part-past, part-many, all-many, fieldsFrom, fields-length, fields-at}
 use Rattle.descriptors.specs.declared.Kind.{Kind}
 use Rattle.descriptors.specs.Walk.{kindOf, tableOf}
-use Rattle.descriptor_reading.specs.Places.{Stands}
+use Rattle.known_walk.specs.Places.{Stands}
 use Rattle.descriptor_reading.proofs.Tags.{reads-as}
 use Rattle.descriptor_reading.proofs.SegmentationRows.{there}
 use Rattle.descriptor_reading.proofs.SegmentationNames.{headed}

@@ -14,8 +14,10 @@ use Rattle.grammar.specs.Traces.{Trace}
 use Rattle.grammar.specs.Names.{look}
 use Rattle.descriptors.specs.declared.Kind.{Kind}
 use Rattle.descriptors.specs.Walk.{byTag, kindOf, tableOf}
-use Rattle.descriptor_reading.specs.Descriptor.{isKnown, isTag}
-use Rattle.descriptor_reading.specs.Places.{Stands, tagAt}
+use Rattle.known_walk.specs.Known.{isKnown}
+use Rattle.descriptor_reading.specs.Descriptor.{isTag}
+use Rattle.known_walk.specs.Places.{Stands}
+use Rattle.descriptor_reading.specs.Places.{tagAt}
 
 -- the tag of a kind (Table 16)
 abbrev pub tagOf : Kind → ℕ

@@ -24,7 +24,8 @@ use Rattle.descriptor_reading.specs.declared.answers.SegmentationCompone
 use Rattle.descriptor_reading.specs.declared.answers.AudioComponent.{AudioComponent}
 use Rattle.descriptor_reading.specs.declared.answers.Upid.{Upid}
 use Rattle.descriptor_reading.specs.Descriptor.{segmentationOf, descriptorOf, dtmfCharOf, segmentationComponentOf, audioComponentOf, through, upidOf}
-use Rattle.descriptor_reading.specs.Places.{Stands, upidPlace, segmentationAt, componentsAt, tagAt, descriptorAt, dtmfCharAt, segmentationComponentAt, audioComponentAt, upidAt}
+use Rattle.known_walk.specs.Places.{Stands}
+use Rattle.descriptor_reading.specs.Places.{upidPlace, segmentationAt, componentsAt, tagAt, descriptorAt, dtmfCharAt, segmentationComponentAt, audioComponentAt, upidAt}
 use Rattle.descriptor_reading.proofs.Tags.{reads-as, kind-is, is-tag}
 use Rattle.descriptor_reading.proofs.SegmentationTold as table
 use Rattle.descriptor_reading.proofs.SegmentationTold.{Component, UpidStands}

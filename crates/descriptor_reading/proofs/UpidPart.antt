@@ -20,12 +20,14 @@ use Rattle.descriptors.specs.declared.Cursor.{Cursor}
 use Rattle.descriptors.specs.declared.Kind.{Kind}
 use Rattle.descriptors.specs.Walk.{tableOf}
 use Rattle.descriptor_reading.specs.declared.answers.Upid.{Upid}
-use Rattle.descriptor_reading.specs.Descriptor.{knownCursors, numbered, knownTrace, upidOf, upid}
-use Rattle.descriptor_reading.specs.Places.{Stands, upidPlace, tagAt, upidAt}
+use Rattle.known_walk.specs.Known.{knownCursors, numbered, knownTrace}
+use Rattle.descriptor_reading.specs.Descriptor.{upidOf, upid}
+use Rattle.known_walk.specs.Places.{Stands}
+use Rattle.descriptor_reading.specs.Places.{upidPlace, tagAt, upidAt}
 use Rattle.descriptor_reading.proofs.Tags.{reads-as, kind-is}
 use Rattle.descriptor_reading.proofs.SegmentationTold.{upid-inside, upid-bytes}
 use Rattle.descriptor_reading.proofs.Told.{not-true, upid-told, none-upid}
-use Rattle.descriptor_reading.proofs.EachStands.{stands-or-none}
+use Rattle.known_walk.proofs.EachStands.{stands-or-none}
 
 -- a part is given for a segmentation descriptor that is not cancelled, and for nothing else
 record Given (s : List ℕ) (at a l : ℕ) : Type 0 where

@@ -1,20 +1,14 @@
--- For private functions: the parts of a known descriptor by the byte at which they stand.
+-- For private functions, here and in `descriptor_lists`: the parts of a known descriptor by the byte at which they stand.
 -- Assumes nothing.
-use mathlib.Core.Path.{_≡_}
-use Prim.Native.Nat.{ℕ, _+_, _*_, _≤_}
-use mathlib.Core.Bool.{true, cond, not, _&&_}
-use mathlib.Core.List.{List, [], _∷_, _++_}
-use lib.ListN.{length}
+use Prim.Native.Nat.{ℕ, _+_, _*_}
+use mathlib.Core.Bool.{cond, not, _&&_}
+use mathlib.Core.List.{List}
 use lib.Dec.{eqb, ltb}
-use Rattle.bits.specs.Bits.{bit, fieldOf, flagOf}
+use Rattle.bits.specs.Bits.{fieldOf, flagOf}
 use Rattle.units.specs.declared.refusals.Refusal.{Refusal}
 use Rattle.units.specs.Clock.{ticks}
-use Rattle.grammar.specs.Syntax.{field}
-use Rattle.grammar.specs.Meaning.{Env, values, isAmong, reached, read}
+use Rattle.grammar.specs.Meaning.{isAmong}
 use Rattle.grammar.specs.Tables.{sub-segmented}
-use Rattle.grammar.specs.Traces.{Trace}
-use Rattle.descriptors.specs.declared.Cursor.{Cursor}
-use Rattle.descriptors.specs.Walk.{kindOf, tableOf}
 use Rattle.descriptor_reading.specs.declared.answers.Mode.{Mode}
 use Rattle.descriptor_reading.specs.declared.answers.Delivery.{Delivery}
 use Rattle.descriptor_reading.specs.declared.answers.Duration.{Duration}
@@ -25,35 +19,7 @@ use Rattle.descriptor_reading.specs.declared.answers.DtmfChar.{DtmfChar}
 use Rattle.descriptor_reading.specs.declared.answers.SegmentationComponent.{SegmentationComponent}
 use Rattle.descriptor_reading.specs.declared.answers.AudioComponent.{AudioComponent}
 use Rattle.descriptor_reading.specs.declared.answers.Upid.{Upid}
-use Rattle.descriptor_reading.specs.declared.walk.Place.{Place}
-use Rattle.descriptor_reading.specs.Descriptor.{isKnown, knownCursors, numbered, knownTrace, eventId}
-
--- ---- a descriptor of the standard's stands at byte `at`
-
--- its rows t are tag, length and identifier, and then what the table of its kind reads
-pub record Stands (s : List ℕ) (at : ℕ) (t : Trace) : Type 0 where
-  pub env : Env
-  pub stop : ℕ
-  pub body : Trace
-  pub fits : length s ≤ 4096
-  pub known : isKnown (kindOf s at) ≡ true
-  pub ends : stop ≡ at + 2 + fieldOf s (8 * (at + 1)) 8
-  pub low : at + 6 ≤ stop
-  pub inside : stop ≤ length s
-  pub rows :
-      t
-      ≡ values (field 8 "splice_descriptor_tag" ∷ field 8 "descriptor_length" ∷ []) (bit s) (8 * at)
-      ++ (values (field 32 "identifier" ∷ []) (bit s) (8 * at + 16) ++ body)
-  pub reads : read (tableOf (kindOf s at)) env (bit s) (8 * stop) (8 * (at + 6)) ≡ reached (8 * stop) body
-
--- the descriptor with the rows t stands at byte `at`, and that is the answer; or there are no rows
-abbrev pub placedAt : List ℕ → ℕ → Trace → Place → Type 0
-placedAt s at t Place.Nowhere = t ≡ []
-placedAt s at t (Place.At k) = (k ≡ at) × Stands s k t
-
--- known descriptor n
-abbrev pub placed : List ℕ → Cursor → ℕ → Place → Type 0
-placed s c n = placedAt s (numbered (knownCursors s c) n .at) (knownTrace s c n)
+use Rattle.descriptor_reading.specs.Descriptor.{eventId}
 
 -- ---- its parts, by the byte after the identifier
 

@@ -1,7 +1,7 @@
 // The parts of a segmentation descriptor (Table 20), by the byte after its identifier.
 ghost use mathlib.Core.Path.{_≡_};
 ghost use Prim.Native.Nat.{_≤_};
-ghost use Rattle.descriptor_reading.specs.Places.{afterComponents, upidPlace, modeAt, deliveryAt, durationAt, subSegmentsAt, segmentationAt, componentsAt};
+ghost use Rattle.descriptor_reading.specs.Places.{afterComponents, upidPlace, modeAt, deliveryAt, durationAt, subSegmentsAt, segmentationAt};
 use crate::answers::Delivery;
 use crate::answers::Descriptor;
 use crate::answers::Duration;
@@ -125,22 +125,5 @@ pub(crate) fn upid_place(s: &[u8], at: usize) -> usize
         after + 5
     } else {
         after
-    }
-}
-
-// How many components there are.
-pub(crate) fn component_count(s: &[u8], at: usize) -> usize
-    requires { ⌜ at ≤ 4096 ⌝ }
-    ensures { λ r. ⌜ r ≡ componentsAt (now (s .entry)) at ⌝ }
-{
-    // segmentation_event_cancel_indicator
-    if bits::flag(s, 8 * (at + 4)) {
-        return 0;
-    }
-    // program_segmentation_flag
-    if bits::flag(s, 8 * (at + 5)) {
-        0
-    } else {
-        bits::octet(s, at + 6) as usize
     }
 }

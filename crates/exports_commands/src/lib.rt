@@ -4,7 +4,7 @@ mod lists;
 mod numbers;
 
 ghost use mathlib.Core.Path.{_≡_};
-ghost use Rattle.reading.specs.Reading as says;
+ghost use Rattle.command_questions.specs.Questions as says;
 ghost use Rattle.wire.specs.Wire.{wire};
 ghost use Rattle.wire.specs.Given.{given, givenInto};
 ghost use Rattle.exports_commands.specs.Numbers.{commandNumbers, insertComponentNumbers, eventNumbers};
@@ -14,7 +14,7 @@ ghost use Rattle.exports_commands.specs.Numbers.{commandNumbers, insertC
 pub extern "C" fn timpanimist_command(section: &[u8], out: &mut [u64]) -> u64
     ensures { λ r. ⌜ (r ≡ wire (given (commandNumbers (says.command (now (section .entry)))) (now (out .entry)))) × (now (out .exit) ≡ givenInto (commandNumbers (says.command (now (section .entry)))) (now (out .entry))) ⌝ }
 {
-    let answer = reading::command(section);
+    let answer = command_questions::command(section);
     wire::number(numbers::command(answer, out))
 }
 
@@ -23,7 +23,7 @@ pub extern "C" fn timpanimist_command(section: &[u8], out: &mut [u64]) -> u64
 pub extern "C" fn timpanimist_insert_component(section: &[u8], n: usize, out: &mut [u64]) -> u64
     ensures { λ r. ⌜ (r ≡ wire (given (insertComponentNumbers (says.insertComponent (now (section .entry)) n)) (now (out .entry)))) × (now (out .exit) ≡ givenInto (insertComponentNumbers (says.insertComponent (now (section .entry)) n)) (now (out .entry))) ⌝ }
 {
-    let answer = reading::insert_component(section, n);
+    let answer = command_questions::insert_component(section, n);
     wire::number(numbers::insert_component(answer, out))
 }
 
@@ -32,6 +32,6 @@ pub extern "C" fn timpanimist_insert_component(section: &[u8], n: usize, out: &m
 pub extern "C" fn timpanimist_schedule_event(section: &[u8], n: usize, out: &mut [u64]) -> u64
     ensures { λ r. ⌜ (r ≡ wire (given (eventNumbers (says.scheduleEvent (now (section .entry)) n)) (now (out .entry)))) × (now (out .exit) ≡ givenInto (eventNumbers (says.scheduleEvent (now (section .entry)) n)) (now (out .entry))) ⌝ }
 {
-    let answer = reading::schedule_event(section, n);
+    let answer = command_questions::schedule_event(section, n);
     wire::number(numbers::schedule_event(answer, out))
 }

@@ -12,10 +12,11 @@ use Rattle.descriptors.specs.Loop.{traceAt}
 use Rattle.section.specs.declared.Opened.{Opened}
 use Rattle.section.specs.First.{openOf}
 use Rattle.descriptor_reading.specs.declared.answers.Upid.{Upid}
-use Rattle.descriptor_reading.specs.Descriptor.{knownCursors, upidOf}
-use Rattle.descriptor_reading.proofs.EachStands.{AllStand, each-stands}
+use Rattle.known_walk.specs.Known.{knownCursors}
+use Rattle.descriptor_reading.specs.Descriptor.{upidOf}
+use Rattle.known_walk.proofs.EachStands.{AllStand, each-stands}
 use Rattle.descriptor_reading.proofs.UpidPart.{standing-within}
-use Rattle.reading.proofs.Asked.{when-open, when-refused}
+use Rattle.command_questions.proofs.Asked.{when-open, when-refused}
 use Rattle.house.specs.declared.answers.Label.{Label}
 use Rattle.house.specs.House.{labelled, labelAt, billLabel}
 

@@ -23,8 +23,9 @@ use Rattle.descriptor_reading.specs.declared.answers.Duration.{Duration}
 use Rattle.descriptor_reading.specs.declared.answers.Segmentation.{Segmentation}
 use Rattle.descriptor_reading.specs.declared.answers.Descriptor.{Descriptor}
 use Rattle.descriptor_reading.specs.declared.answers.Upid.{Upid}
-use Rattle.descriptor_reading.specs.Descriptor.{knownCursors, descriptorOf, upidOf}
-use Rattle.reading.specs.Reading.{asked}
+use Rattle.known_walk.specs.Known.{knownCursors}
+use Rattle.descriptor_reading.specs.Descriptor.{descriptorOf, upidOf}
+use Rattle.command_questions.specs.Questions.{asked}
 use Rattle.house.specs.declared.answers.Break.{Break}
 use Rattle.house.specs.declared.answers.EffectiveTime.{EffectiveTime}
 use Rattle.house.specs.declared.answers.Dvb.{Dvb}

@@ -2,7 +2,7 @@
 ghost use mathlib.Core.Path.{_≡_};
 ghost use mathlib.Core.Bool.{cond, _||_};
 ghost use Rattle.grammar.specs.Meaning.{isAmong};
-ghost use Rattle.descriptor_reading.specs.Descriptor.{knownCursors};
+ghost use Rattle.known_walk.specs.Known.{knownCursors};
 ghost use Rattle.house.specs.House.{breakTypes, opens, carried, longer, lasting, signalBreak, knownReadings, labelAt};
 use crate::answers::Break;
 use crate::answers::Label;
@@ -25,7 +25,7 @@ pub(crate) fn signal_break(s: &[u8], cursor: Cursor) -> Break
     loop {
         match place.step(s) {
             Step::Descriptor(kind, next) => {
-                if descriptor_reading::is_known(kind) {
+                if known_walk::is_known(kind) {
                     let here = descriptor_reading::descriptor_at(s, place);
                     opened = either(opened, opens(here));
                     longest = longer(longest, carried(here));
@@ -53,7 +53,7 @@ pub(crate) fn first_label(s: &[u8], cursor: Cursor) -> Label
     loop {
         match place.step(s) {
             Step::Descriptor(kind, next) => {
-                if descriptor_reading::is_known(kind) {
+                if known_walk::is_known(kind) {
                     let upid = descriptor_reading::upid_at(s, place);
                     if let Upid::Part(at, length) = upid {
                         if 0 < length {

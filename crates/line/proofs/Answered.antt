@@ -2,8 +2,8 @@
 -- Assumes nothing.
 use mathlib.Core.Path.{_≡_, refl, sym, ap, ap₂, _∙_}
 use mathlib.Core.Logic.{⊎-elim}
-use mathlib.Core.List.{List, _++_}
-use Prim.Native.Nat.{ℕ, zero, suc, _+_, _*_, _/_, _≤_, _<_}
+use mathlib.Core.List.{List}
+use Prim.Native.Nat.{ℕ, zero, suc, _≤_, _<_}
 use native.Mathlib.Omega.{arith}
 use lib.ListN.{length, take, drop}
 use lib.Seq.{take-at}
@@ -17,7 +17,7 @@ use Rattle.text.specs.Text.{readRow, read, readInto, count, decoded}
 use Rattle.text.proofs.Decoded.{length-decoded}
 use Rattle.text.proofs.Rows.{row-long, row-room, accepted}
 use Rattle.line.specs.declared.Line.{Line}
-use Rattle.line.specs.Line.{inMillis, answerBy, answerIn, lineAnswer, refusedText}
+use Rattle.line.specs.Line.{inMillis, answerBy, answerIn, lineAnswer}
 
 module _ (t out : List ℕ) where
   -- a refusal of the text is the answer

@@ -70,10 +70,11 @@ digits-final (suc k) n =
   where
     single : n < 10 → digits (suc k) n ≡ (n + 48) ∷ [] → digits (suc k) n ≡ final (length (digits (suc k) n)) n
     single h e = e ∙ ap (λ (m : ℕ). (m + 48) ∷ []) (sym (mod-eq-of-lt h)) ∙ ap (λ (m : ℕ). final m n) (sym (ap length e))
+
     longer : digits k (n / 10) ≡ final (length (digits k (n / 10))) (n / 10) → digits (suc k) n ≡ digits k (n / 10) ++ ((n % 10 + 48) ∷ []) → digits (suc k) n ≡ final (length (digits (suc k) n)) n
     longer fewer e =
         let long : suc (length (digits k (n / 10))) ≡ length (digits (suc k) n) =
-            omega (arith, ap length e, length-append (digits k (n / 10)) ((n % 10 + 48) ∷ [])) in
+        omega (arith, ap length e, length-append (digits k (n / 10)) ((n % 10 + 48) ∷ [])) in
         e ∙ ap (λ (ds : List ℕ). ds ++ ((n % 10 + 48) ∷ [])) fewer ∙ ap (λ (m : ℕ). final m n) long
 
 -- the last digits of n from place i on stand in the list, from a place on that has room for count of them; the rest of n is still to be written

@@ -1,6 +1,6 @@
 -- Characters put into a list from a place on, one part after another, and what then stands in front; how long a line is at most.
 -- Assumes nothing.
-use mathlib.Core.Path.{_≡_, refl, sym, ap, ap₂, _∙_, subst}
+use mathlib.Core.Path.{_≡_, sym, ap, ap₂, _∙_, subst}
 use mathlib.Core.Bool.{Bool, true, false, cond}
 use mathlib.Core.Logic.{⊎-elim}
 use mathlib.Core.List.{List, [], _∷_, _++_}
@@ -109,5 +109,6 @@ module _ (line : Line) (out : List ℕ) where
           let is = written h in
           let all : n ≡ length (spelled line) = cc (is .0) in
           (all, omega arith, sym (is .1) ∙ ap (λ (k : ℕ). spelled line ++ drop k out) (sym all))
+
       no : length out < length (spelled line) → (n ≡ length (spelled line)) × (n ≤ length out) × (spellInto line out ≡ spelled line ++ drop n out)
       no h = absurd (let z : _≡_ {A = ℕ} 0 1 = cc (no-room h .0) in omega arith)

@@ -71,6 +71,7 @@ ended-whole held carry part e = ⊎-elim short long (le-or-lt (0 + length part) 
         let parts = fit held 0 e carry part h in
         ap (λ (t : List ℕ). answerIn t 4098) (sym (take-at part (drop (0 + length part) carry) (0 + length part) (omega arith)))
         ∙ ended-at held carry part (0 + length part) _ (sym (parts .0)) (parts .1)
+
     long : 5464 < 0 + length part → answerIn part 4098 ≡ ended held carry part
     long h = too-long part (omega arith) ∙ ended-long held carry part (sym (no-fit held 0 e carry part h .0))
 
@@ -131,9 +132,9 @@ last-held held carry (suc n) e z h =
     let all : suc n + 0 ≡ suc n = add-zero (suc n) in
     let parts = fit (Held.Characters (suc n)) (suc n) refl carry [] (omega arith) in
     let same : take (suc n) carry ++ [] ++ drop (suc n + 0) carry ≡ carry =
-        ap (λ (k : ℕ). take (suc n) carry ++ [] ++ drop k carry) all
-        ∙ ap (λ (l : List ℕ). l ++ drop (suc n) carry) (append-nil (take (suc n) carry))
-        ∙ take-append-drop (suc n) carry in
+    ap (λ (k : ℕ). take (suc n) carry ++ [] ++ drop k carry) all
+    ∙ ap (λ (l : List ℕ). l ++ drop (suc n) carry) (append-nil (take (suc n) carry))
+    ∙ take-append-drop (suc n) carry in
     ap spelled
     (ap (λ (k : ℕ). answerIn (take k carry) 4098) (sym all)
     ∙ ended-at (Held.Characters (suc n)) carry [] (suc n + 0) carry (sym (parts .0)) (sym same ∙ parts .1))

@@ -5,14 +5,12 @@ use mathlib.Core.Bool.{Bool, true, false, cond}
 use mathlib.Core.Logic.{_⊎_, inl, inr}
 use mathlib.Core.List.{List, [], _∷_, _++_, append-assoc, append-nil}
 use Prim.Native.Nat.{ℕ, zero, suc, _+_, _-_, _≤_, _<_}
-use native.Mathlib.Nat.{add-zero}
 use native.Mathlib.Omega.{arith}
-use lib.ListN.{length, take, drop, length-append, length-drop, take-append-drop}
-use lib.Seq.{length-take-le, take-at, take-length, take-append-add, take-append-le, append-snoc}
-use lib.Dec.{eqb, leb, ltb}
+use lib.ListN.{length, take, drop, length-append, length-drop}
+use lib.Seq.{length-take-le, take-at, take-length, take-append-add}
+use lib.Dec.{eqb, ltb}
 use borrow.Author.Tests.{eqb-true, ne-eqb}
 use Rattle.bits.proofs.Cases.{le-or-lt}
-use Rattle.units.specs.declared.refusals.Refusal.the-variants.{TextLen}
 use Rattle.line.specs.declared.Line.{Line}
 use Rattle.line.specs.Line.{lineAnswer, spelled}
 use Rattle.line.proofs.Answered.{too-long}
@@ -92,8 +90,10 @@ stands-with (Held.Characters n) carry part line h s = by (le-or-lt (n + length p
   where
     held : Held
     held = Held.Characters n
+
     front : length (take n carry ++ part) ≡ n + length part
     front = length-append (take n carry) part ∙ ap (λ (k : ℕ). k + length part) (length-take-le n carry (omega (arith, s .0)))
+
     by : (n + length part ≤ 5464) ⊎ (5464 < n + length part) → Stands (heldWith (Held.Characters n) part) (carryWith (Held.Characters n) carry part) (line ++ part)
     by (inl l) =
         let parts = fit (Held.Characters n) n refl carry part l in
@@ -137,6 +137,7 @@ stands-full (Held.Characters (suc n)) carry part line h s = by (le-or-lt (suc n 
   where
     front : length (take (suc n) carry) ≡ suc n
     front = length-take-le (suc n) carry (omega (arith, s .0))
+
     by : (suc n + length part ≤ 5464) ⊎ (5464 < suc n + length part) → Stands (Held.Characters (suc n)) (carryWith (Held.Characters (suc n)) carry part) line
     by (inl l) = (
       s .0,
@@ -181,7 +182,7 @@ says-after held carry part line cs t h s p next =
     let y : List ℕ = take (t .taken) cs in
     let count : length part + 1 + t .taken ≡ length part + suc (t .taken) = omega arith in
     let front : take (length part + 1 + t .taken) (part ++ (10 ∷ cs)) ≡ part ++ (10 ∷ y) =
-        ap (λ (k : ℕ). take k (part ++ (10 ∷ cs))) count ∙ take-append-add part (10 ∷ cs) (suc (t .taken)) in
+    ap (λ (k : ℕ). take k (part ++ (10 ∷ cs))) count ∙ take-append-add part (10 ∷ cs) (suc (t .taken)) in
     record {
       words =
           ap₂ (λ (l : Line) (x : List ℕ). spelled l ++ x) (stands-ended held carry part line h s) (next .words)

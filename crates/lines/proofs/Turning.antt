@@ -4,7 +4,7 @@ use mathlib.Core.Path.{_≡_, refl, sym, ap, ap₂, _∙_, subst}
 use mathlib.Core.Bool.{Bool, true, false, cond}
 use mathlib.Core.Logic.{⊎-elim}
 use mathlib.Core.List.{List, [], _∷_, _++_, append-assoc, append-nil}
-use Prim.Native.Nat.{ℕ, zero, suc, _+_, _-_, _≤_, _<_}
+use Prim.Native.Nat.{ℕ, suc, _+_, _-_, _≤_, _<_}
 use native.Mathlib.Nat.{zero-add, add-zero, add-assoc, sub-zero}
 use native.Mathlib.Omega.{arith}
 use lib.ListN.{length, getD, take, drop, length-append, length-drop, take-append-drop}
@@ -161,131 +161,131 @@ module _ (held : Held) (input carry out : List ℕ) where
       )
 
 module _
-  {held₀ : Held} {input carry₀ out₀ : List ℕ} {held : Held} {carry out : List ℕ} {taken written : ℕ}
-  (g : Going held₀ input carry₀ out₀ held carry out taken written) (h : 5464 ≤ length carry₀)
+    {held₀ : Held} {input carry₀ out₀ : List ℕ} {held : Held} {carry out : List ℕ} {taken written : ℕ}
+    (g : Going held₀ input carry₀ out₀ held carry out taken written) (h : 5464 ≤ length carry₀)
   where
-  front-long : length (take written out) ≡ written
-  front-long = length-take-le written out (omega (arith, g .room, g .out-long))
+    front-long : length (take written out) ≡ written
+    front-long = length-take-le written out (omega (arith, g .room, g .out-long))
 
-  -- what stands in the output where the turn ends without saying more
-  as-written : take written out ++ [] ++ drop (length (take written out ++ [])) out₀ ≡ out
-  as-written =
-      ap (λ (x : List ℕ). x ++ drop (length x) out₀) (append-nil (take written out))
-      ∙ ap (λ (k : ℕ). take written out ++ drop k out₀) front-long
-      ∙ ap (λ (x : List ℕ). take written out ++ x) (sym (g .rest))
-      ∙ take-append-drop written out
+    -- what stands in the output where the turn ends without saying more
+    as-written : take written out ++ [] ++ drop (length (take written out ++ [])) out₀ ≡ out
+    as-written =
+        ap (λ (x : List ℕ). x ++ drop (length x) out₀) (append-nil (take written out))
+        ∙ ap (λ (k : ℕ). take written out ++ drop k out₀) front-long
+        ∙ ap (λ (x : List ℕ). take written out ++ x) (sym (g .rest))
+        ∙ take-append-drop written out
 
-  said-long : length (take written out ++ []) ≡ written
-  said-long = ap length (append-nil (take written out)) ∙ front-long
+    said-long : length (take written out ++ []) ≡ written
+    said-long = ap length (append-nil (take written out)) ∙ front-long
 
-  -- the input ends in the middle of a line
-  pub ends : (end : ℕ) → end ≡ taken + lineLength (drop taken input) → end ≡ length input
-      → (Turn.Moved (heldWith held (drop taken input)) end written ≡ turnAnswer held₀ input carry₀ out₀)
-      × (carryWith held carry (drop taken input) ≡ turnCarry held₀ input carry₀ out₀)
-      × (out ≡ turnOut held₀ input carry₀ out₀)
-  ends end e l =
-      let x : List ℕ = drop taken input in
-      let long : length x ≡ length input - taken = length-drop taken input in
-      let whole : lineLength x ≡ length x = omega (arith, g .place) in
-      let all : taken + length x ≡ end = omega (arith, g .place) in
-      let is = turn-is held₀ input carry₀ out₀ h _ (g .same ∙ ap (after taken (take written out)) (no-newline held carry (length out₀ - written) x [] whole)) in (
-        ap₂ (λ (k n : ℕ). Turn.Moved (heldWith held x) k n) (sym all) (sym said-long) ∙ is .0,
-        is .1,
-        sym as-written ∙ is .2,
-      )
-
-  -- a line ends inside the input, and has this answer
-  module _
-    (end : ℕ) (e : end ≡ taken + lineLength (drop taken input)) (more : end ≡ length input → ⊥) (answer : Line)
-    (a : answer ≡ ended held carry (take (end - taken) (drop taken input)))
-    where
-    inside : lineLength (drop taken input) < length (drop taken input)
-    inside =
-        let long : length (drop taken input) ≡ length input - taken = length-drop taken input in
-        let least : lineLength (drop taken input) ≤ length (drop taken input) = line-inside (drop taken input) in
-        ⊎-elim (λ (l : length (drop taken input) ≤ lineLength (drop taken input)). absurd (more (omega (arith, g .place)))) (λ l. l)
-        (le-or-lt (length (drop taken input)) (lineLength (drop taken input)))
-
-    -- the rest of the turn is that of this line
-    next : turned held₀ carry₀ [] (length out₀) input
-        ≡ after taken (take written out)
-        (lineTurn held carry (length out₀ - written) (take (end - taken) (drop taken input)) (drop (end + 1) input))
-    next =
-        let x : List ℕ = drop taken input in
-        let count : lineLength x ≡ end - taken = omega arith in
-        let past : drop (suc (lineLength x)) x ≡ drop (end + 1) input =
-            drop-drop (suc (lineLength x)) taken input ∙ ap (λ (k : ℕ). drop k input) (let s : taken + suc (lineLength x) ≡ end + 1 = omega arith in s) in
-        g .same
-        ∙ ap (after taken (take written out))
-        (newline held carry (length out₀ - written) x [] inside
-        ∙ ap₂ (λ (k : ℕ) (y : List ℕ). lineTurn held carry (length out₀ - written) (take k x) y) count past)
-
-    left : length (drop written out) ≡ length out₀ - written
-    left = length-drop written out ∙ ap (λ (k : ℕ). k - written) (g .out-long)
-
-    -- by whether it has room
-    chosen : (b : Bool) → ltb (length (drop written out)) (length (spelled answer)) ≡ b
-        → lineTurn held carry (length out₀ - written) (take (end - taken) (drop taken input)) (drop (end + 1) input)
-        ≡ cond b (full held carry (take (end - taken) (drop taken input)))
-        (after (length (take (end - taken) (drop taken input)) + 1) (spelled answer)
-        (turned (Held.Characters 0) (carryEnded held carry (take (end - taken) (drop taken input))) [] (length out₀ - written - length (spelled answer))
-        (drop (end + 1) input)))
-    unfolding lineTurn
-    chosen b q = rw (← a, ← left, q)
-
-    -- its answer has no room
-    pub stops : length (drop written out) < length (spelled answer)
-        → (Turn.Moved held taken written ≡ turnAnswer held₀ input carry₀ out₀)
-        × (carryEnded held carry (take (end - taken) (drop taken input)) ≡ turnCarry held₀ input carry₀ out₀)
+    -- the input ends in the middle of a line
+    pub ends : (end : ℕ) → end ≡ taken + lineLength (drop taken input) → end ≡ length input
+        → (Turn.Moved (heldWith held (drop taken input)) end written ≡ turnAnswer held₀ input carry₀ out₀)
+        × (carryWith held carry (drop taken input) ≡ turnCarry held₀ input carry₀ out₀)
         × (out ≡ turnOut held₀ input carry₀ out₀)
-    stops few =
-        let is = turn-is held₀ input carry₀ out₀ h _ (next ∙ ap (after taken (take written out)) (chosen true (lt-ltb _ _ few))) in (
-          ap₂ (λ (k n : ℕ). Turn.Moved held k n) (sym (add-zero taken)) (sym said-long) ∙ is .0,
+    ends end e l =
+        let x : List ℕ = drop taken input in
+        let long : length x ≡ length input - taken = length-drop taken input in
+        let whole : lineLength x ≡ length x = omega (arith, g .place) in
+        let all : taken + length x ≡ end = omega (arith, g .place) in
+        let is = turn-is held₀ input carry₀ out₀ h _ (g .same ∙ ap (after taken (take written out)) (no-newline held carry (length out₀ - written) x [] whole)) in (
+          ap₂ (λ (k n : ℕ). Turn.Moved (heldWith held x) k n) (sym all) (sym said-long) ∙ is .0,
           is .1,
           sym as-written ∙ is .2,
         )
 
-    -- its answer is written behind the others
-    goes-all : length (spelled answer) ≤ length (drop written out) → (carry′ out′ : List ℕ)
-        → carry′ ≡ carryEnded held carry (take (end - taken) (drop taken input)) → length carry′ ≡ length carry
-        → out′ ≡ take written out ++ (spelled answer ++ drop (length (spelled answer)) (drop written out))
-        → Going held₀ input carry₀ out₀ (Held.Characters 0) carry′ out′ (end + 1) (written + length (spelled answer))
-    goes-all fits carry′ out′ ec lc eo =
-        let w : List ℕ = spelled answer in
-        let line : List ℕ = take (end - taken) (drop taken input) in
-        let x-long : length (drop taken input) ≡ length input - taken = length-drop taken input in
-        let line-long : length line ≡ end - taken = length-take-le (end - taken) (drop taken input) (omega (arith, inside)) in
-        let front : length (take written out ++ w) ≡ written + length w = length-append (take written out) w ∙ ap (λ (k : ℕ). k + length w) front-long in
-        let as-two : out′ ≡ (take written out ++ w) ++ drop (length w) (drop written out) = eo ∙ sym (append-assoc (take written out) w (drop (length w) (drop written out))) in
-        let taken-all : taken + (length line + 1) ≡ end + 1 = omega (arith, inside) in
-        let room-left : length out₀ - written - length w ≡ length out₀ - (written + length w) = omega arith in
-        record {
-          place = omega (arith, inside, x-long, g .place);
-          room = omega (arith, left, g .room);
-          out-long =
-              ap length as-two
-              ∙ length-append (take written out ++ w) (drop (length w) (drop written out))
-              ∙ omega (arith, front, length-drop (length w) (drop written out), left, g .room);
-          carry-long = lc ∙ g .carry-long;
-          rest =
-              ap (drop (written + length w)) as-two
-              ∙ drop-at (take written out ++ w) (drop (length w) (drop written out)) (written + length w) front
-              ∙ ap (drop (length w)) (g .rest)
-              ∙ drop-drop (length w) written out₀;
-          same =
-              next
-              ∙ ap (after taken (take written out)) (chosen false (le-ltb _ _ fits))
-              ∙ after-after taken (length line + 1) (take written out) w _
-              ∙ ap₂ (λ (k : ℕ) (s : List ℕ). after k s (turned (Held.Characters 0) (carryEnded held carry line) [] (length out₀ - written - length w) (drop (end + 1) input)))
-              taken-all
-              (sym (ap (take (written + length w)) as-two ∙ take-at (take written out ++ w) (drop (length w) (drop written out)) (written + length w) front))
-              ∙ ap₂ (λ (k : ℕ) (m : List ℕ). after (end + 1) (take (written + length w) out′) (turned (Held.Characters 0) m [] k (drop (end + 1) input))) room-left (sym ec);
-        }
+    -- a line ends inside the input, and has this answer
+    module _
+        (end : ℕ) (e : end ≡ taken + lineLength (drop taken input)) (more : end ≡ length input → ⊥) (answer : Line)
+        (a : answer ≡ ended held carry (take (end - taken) (drop taken input)))
+      where
+        inside : lineLength (drop taken input) < length (drop taken input)
+        inside =
+            let long : length (drop taken input) ≡ length input - taken = length-drop taken input in
+            let least : lineLength (drop taken input) ≤ length (drop taken input) = line-inside (drop taken input) in
+            ⊎-elim (λ (l : length (drop taken input) ≤ lineLength (drop taken input)). absurd (more (omega (arith, g .place)))) (λ l. l)
+            (le-or-lt (length (drop taken input)) (lineLength (drop taken input)))
 
-    pub goes : (n : ℕ) → n ≡ length (spelled answer) → n ≤ length (drop written out) → (carry′ out′ : List ℕ)
-        → carry′ ≡ carryEnded held carry (take (end - taken) (drop taken input)) → length carry′ ≡ length carry
-        → out′ ≡ take written out ++ (spelled answer ++ drop n (drop written out))
-        → Going held₀ input carry₀ out₀ (Held.Characters 0) carry′ out′ (end + 1) (written + n)
-    goes n all fits carry′ out′ ec lc eo =
-        subst (λ (k : ℕ). Going held₀ input carry₀ out₀ (Held.Characters 0) carry′ out′ (end + 1) (written + k)) (sym all)
-        (goes-all (omega arith) carry′ out′ ec lc (eo ∙ ap (λ (k : ℕ). take written out ++ (spelled answer ++ drop k (drop written out))) all))
+        -- the rest of the turn is that of this line
+        next : turned held₀ carry₀ [] (length out₀) input
+            ≡ after taken (take written out)
+            (lineTurn held carry (length out₀ - written) (take (end - taken) (drop taken input)) (drop (end + 1) input))
+        next =
+            let x : List ℕ = drop taken input in
+            let count : lineLength x ≡ end - taken = omega arith in
+            let past : drop (suc (lineLength x)) x ≡ drop (end + 1) input =
+            drop-drop (suc (lineLength x)) taken input ∙ ap (λ (k : ℕ). drop k input) (let s : taken + suc (lineLength x) ≡ end + 1 = omega arith in s) in
+            g .same
+            ∙ ap (after taken (take written out))
+            (newline held carry (length out₀ - written) x [] inside
+            ∙ ap₂ (λ (k : ℕ) (y : List ℕ). lineTurn held carry (length out₀ - written) (take k x) y) count past)
+
+        left : length (drop written out) ≡ length out₀ - written
+        left = length-drop written out ∙ ap (λ (k : ℕ). k - written) (g .out-long)
+
+        -- by whether it has room
+        chosen : (b : Bool) → ltb (length (drop written out)) (length (spelled answer)) ≡ b
+            → lineTurn held carry (length out₀ - written) (take (end - taken) (drop taken input)) (drop (end + 1) input)
+            ≡ cond b (full held carry (take (end - taken) (drop taken input)))
+            (after (length (take (end - taken) (drop taken input)) + 1) (spelled answer)
+            (turned (Held.Characters 0) (carryEnded held carry (take (end - taken) (drop taken input))) [] (length out₀ - written - length (spelled answer))
+            (drop (end + 1) input)))
+        unfolding lineTurn
+        chosen b q = rw (← a, ← left, q)
+
+        -- its answer has no room
+        pub stops : length (drop written out) < length (spelled answer)
+            → (Turn.Moved held taken written ≡ turnAnswer held₀ input carry₀ out₀)
+            × (carryEnded held carry (take (end - taken) (drop taken input)) ≡ turnCarry held₀ input carry₀ out₀)
+            × (out ≡ turnOut held₀ input carry₀ out₀)
+        stops few =
+            let is = turn-is held₀ input carry₀ out₀ h _ (next ∙ ap (after taken (take written out)) (chosen true (lt-ltb _ _ few))) in (
+              ap₂ (λ (k n : ℕ). Turn.Moved held k n) (sym (add-zero taken)) (sym said-long) ∙ is .0,
+              is .1,
+              sym as-written ∙ is .2,
+            )
+
+        -- its answer is written behind the others
+        goes-all : length (spelled answer) ≤ length (drop written out) → (carry′ out′ : List ℕ)
+            → carry′ ≡ carryEnded held carry (take (end - taken) (drop taken input)) → length carry′ ≡ length carry
+            → out′ ≡ take written out ++ (spelled answer ++ drop (length (spelled answer)) (drop written out))
+            → Going held₀ input carry₀ out₀ (Held.Characters 0) carry′ out′ (end + 1) (written + length (spelled answer))
+        goes-all fits carry′ out′ ec lc eo =
+            let w : List ℕ = spelled answer in
+            let line : List ℕ = take (end - taken) (drop taken input) in
+            let x-long : length (drop taken input) ≡ length input - taken = length-drop taken input in
+            let line-long : length line ≡ end - taken = length-take-le (end - taken) (drop taken input) (omega (arith, inside)) in
+            let front : length (take written out ++ w) ≡ written + length w = length-append (take written out) w ∙ ap (λ (k : ℕ). k + length w) front-long in
+            let as-two : out′ ≡ (take written out ++ w) ++ drop (length w) (drop written out) = eo ∙ sym (append-assoc (take written out) w (drop (length w) (drop written out))) in
+            let taken-all : taken + (length line + 1) ≡ end + 1 = omega (arith, inside) in
+            let room-left : length out₀ - written - length w ≡ length out₀ - (written + length w) = omega arith in
+            record {
+              place = omega (arith, inside, x-long, g .place);
+              room = omega (arith, left, g .room);
+              out-long =
+                  ap length as-two
+                  ∙ length-append (take written out ++ w) (drop (length w) (drop written out))
+                  ∙ omega (arith, front, length-drop (length w) (drop written out), left, g .room);
+              carry-long = lc ∙ g .carry-long;
+              rest =
+                  ap (drop (written + length w)) as-two
+                  ∙ drop-at (take written out ++ w) (drop (length w) (drop written out)) (written + length w) front
+                  ∙ ap (drop (length w)) (g .rest)
+                  ∙ drop-drop (length w) written out₀;
+              same =
+                  next
+                  ∙ ap (after taken (take written out)) (chosen false (le-ltb _ _ fits))
+                  ∙ after-after taken (length line + 1) (take written out) w _
+                  ∙ ap₂ (λ (k : ℕ) (s : List ℕ). after k s (turned (Held.Characters 0) (carryEnded held carry line) [] (length out₀ - written - length w) (drop (end + 1) input)))
+                  taken-all
+                  (sym (ap (take (written + length w)) as-two ∙ take-at (take written out ++ w) (drop (length w) (drop written out)) (written + length w) front))
+                  ∙ ap₂ (λ (k : ℕ) (m : List ℕ). after (end + 1) (take (written + length w) out′) (turned (Held.Characters 0) m [] k (drop (end + 1) input))) room-left (sym ec);
+            }
+
+        pub goes : (n : ℕ) → n ≡ length (spelled answer) → n ≤ length (drop written out) → (carry′ out′ : List ℕ)
+            → carry′ ≡ carryEnded held carry (take (end - taken) (drop taken input)) → length carry′ ≡ length carry
+            → out′ ≡ take written out ++ (spelled answer ++ drop n (drop written out))
+            → Going held₀ input carry₀ out₀ (Held.Characters 0) carry′ out′ (end + 1) (written + n)
+        goes n all fits carry′ out′ ec lc eo =
+            subst (λ (k : ℕ). Going held₀ input carry₀ out₀ (Held.Characters 0) carry′ out′ (end + 1) (written + k)) (sym all)
+            (goes-all (omega arith) carry′ out′ ec lc (eo ∙ ap (λ (k : ℕ). take written out ++ (spelled answer ++ drop k (drop written out))) all))

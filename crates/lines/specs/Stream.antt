@@ -7,7 +7,7 @@ use lib.ListN.{length, take}
 use lib.Dec.{eqb}
 use Rattle.line.specs.Line.{lineAnswer, spelled}
 use Rattle.lines.specs.declared.answers.Held.{Held}
-use Rattle.lines.specs.Turns.{Turned, turned}
+use Rattle.lines.specs.Turns.{turned}
 
 -- the lines of a stream, the first of which starts with `line`: a newline byte ends a line, and so does the end of the stream where the line is not empty
 unfoldable pub cut : List ℕ → List ℕ → List (List ℕ)

@@ -30,8 +30,8 @@ use Rattle.layout.proofs.Follows.{traceWidths}
 use Rattle.layout.proofs.Shape.{Thin, thin-append}
 use Rattle.section.specs.Accept.{the}
 use Rattle.sheet.specs.Sheet.{sheetOf, sectionTrace, roomFor, planFor, lengthFor, fitting, pairs, fieldsBetween, filled, summed, sectionOf}
-use Rattle.sheet.proofs.Trace.{Whole, length-numbers, first, sized, last, body, parts, sheet-numbers, sheet-length, body-length}
-use Rattle.sheet.proofs.Plans.{planned, from-sheet, plan-at, plan-number, widths-first, widths-last}
+use Rattle.sheet_reading.proofs.Trace.{Whole, length-numbers, first, sized, last, body, parts, sheet-numbers, sheet-length, body-length}
+use Rattle.sheet_reading.proofs.Plans.{planned, from-sheet, plan-at, plan-number, widths-first, widths-last}
 
 -- ---- fields written one after another
 

@@ -17,7 +17,7 @@ use Rattle.section.specs.declared.Verdict.{Verdict}
 use Rattle.section.specs.declared.Verdict.the-variants.{Accepted, Refused}
 use Rattle.section.specs.Accept.{acceptOf}
 use Rattle.sheet.specs.Sheet.{sheetOf, isAccepted, same, isSheetOf}
-use Rattle.sheet.proofs.Plans.{Laid, length-read}
+use Rattle.sheet_reading.proofs.Plans.{Laid, length-read}
 
 -- ---- the same numbers
 

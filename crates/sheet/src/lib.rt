@@ -6,43 +6,11 @@ ghost use lib.ListN.{length, take, drop, replicate};
 ghost use Rattle.section.specs.declared.Verdict.the-variants.{Accepted};
 ghost use Rattle.section.specs.Accept.{acceptOf};
 ghost use Rattle.bits.specs.Bits.{readAll, writeAll};
-ghost use Rattle.layout.specs.Layout.{put};
-ghost use Rattle.sheet.specs.Sheet.{toSheet, toSheetInto, fieldsBetween, filled, summed, same, isSheetOf, roomFor, Judged, toSection, toSectionInto};
+ghost use Rattle.sheet.specs.Sheet.{fieldsBetween, filled, summed, same, isSheetOf, roomFor, Judged, toSection, toSectionInto};
 use section::Verdict;
+pub use sheet_reading::from_section;
 use units::Refusal;
 use units::Written;
-
-// The numbers of a section's sheet, written to the front of out.
-pub fn from_section(section: &[u8], out: &mut [u64]) -> Written
-    ensures { λ r. ⌜ (r ≡ toSheet (now (section .entry)) (now (out .entry))) × (now (out .exit) ≡ toSheetInto (now (section .entry)) (now (out .entry))) ⌝ }
-{
-    if let Verdict::Refused(refusal) = section::accept(section) {
-        return Written::Refused(refusal);
-    }
-    // a field has a bit at least
-    if section.len() <= 256 {
-        let mut widths = [0u8; 2048];
-        return numbers(section, &mut widths, out);
-    }
-    let mut widths = [0u8; 32768];
-    numbers(section, &mut widths, out)
-}
-
-// The same of an accepted section, with memory for the widths of its fields.
-fn numbers(section: &[u8], widths: &mut [u8], out: &mut [u64]) -> Written
-    requires { ⌜ (acceptOf (now section) ≡ Accepted) × (8 * length (now section) ≤ length (now widths)) × (length (now widths) ≤ 32768) ⌝ }
-    ensures { λ r. ⌜ (r ≡ toSheet (now (section .entry)) (now (out .entry))) × (now (out .exit) ≡ toSheetInto (now (section .entry)) (now (out .entry))) ⌝ }
-{
-    let fields = layout::plan(section, &[], widths);
-    let n = fields.number;
-    if out.len() < n {
-        return Written::Refused(Refusal::Room);
-    }
-    // section_length, at bit 12, is left out
-    read_fields(section, widths, 0, 4, 0, out);
-    read_fields(section, widths, 4, n, 24, out);
-    Written::Count(n)
-}
 
 // The bytes of the section that has the sheet, written to the front of out. What the numbers make counts only if it is a
 // section and has that sheet.
@@ -143,19 +111,6 @@ fn compose(memory: &mut [u8], sheet: &[u64], widths: &[u8], n: usize)
     write_fields(memory, sheet, widths, 4, sheet.len(), 24);
     let sum = crc::crc(&memory[..n - 4]);
     bits::write(memory, 8 * (n - 4), 32, sum as u64);
-}
-
-// The values of the fields `from` to `to` of a section, the first of them at bit `at`, put into the same places of out.
-fn read_fields(section: &[u8], widths: &[u8], from: usize, to: usize, at: usize, out: &mut [u64])
-    requires { ⌜ (from ≤ to) × (to ≤ length (now widths)) × (to ≤ length (now out)) × (to ≤ 32768) × (at ≤ 24) ⌝ }
-    ensures { λ _. ⌜ now (out .exit) ≡ put (now (out .entry)) from (readAll (now (section .entry)) at (take (to - from) (drop from (now (widths .entry))))) ⌝ }
-{
-    let mut place = at;
-    for i in from..to {
-        let width = widths[i] as usize;
-        out[i] = bits::read(section, place, width);
-        place += width;
-    }
 }
 
 // Gives the fields `from` to `to` of a section, the first of them at bit `at`, their values.

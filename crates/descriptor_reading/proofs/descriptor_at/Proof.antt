@@ -2,8 +2,9 @@
 -- Assumes nothing.
 use mathlib.Core.Path.{sym, ap, _∙_}
 use borrow.Author.Needs.{needs}
-use Rattle.descriptor_reading.specs.Descriptor.{standingTrace, descriptorOf, standing}
-use Rattle.descriptor_reading.proofs.Placed.{no-rows, stands-there, low-enough}
+use Rattle.known_walk.specs.Known.{standingTrace}
+use Rattle.descriptor_reading.specs.Descriptor.{descriptorOf, standing}
+use Rattle.known_walk.proofs.Placed.{no-rows, stands-there, low-enough}
 use Rattle.descriptor_reading.proofs.Told.{descriptor-told, none-descriptor}
 use Rattle.descriptor_reading.proofs.descriptor_at.Statement.{statement}
 use Rattle.descriptor_reading.proofs.descriptor_at.Tie as tie

@@ -3,7 +3,7 @@
 use mathlib.Core.Path.{sym, ap, _∙_}
 use borrow.Author.Needs.{needs}
 use Rattle.descriptor_reading.specs.Descriptor.{descriptorOf}
-use Rattle.descriptor_reading.proofs.Placed.{not-there, stands-at, low-enough}
+use Rattle.known_walk.proofs.Placed.{not-there, stands-at, low-enough}
 use Rattle.descriptor_reading.proofs.Told.{descriptor-told, none-descriptor}
 use Rattle.descriptor_reading.proofs.known_descriptor.Statement.{statement}
 use Rattle.descriptor_reading.proofs.known_descriptor.Tie as tie

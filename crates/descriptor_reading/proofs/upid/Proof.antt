@@ -3,8 +3,9 @@
 use mathlib.Core.Path.{sym, ap, _∙_}
 use Prim.Native.Nat.{ℕ}
 use borrow.Author.Needs.{needs}
-use Rattle.descriptor_reading.specs.Descriptor.{knownCursors, numbered, knownTrace, upidOf, upid}
-use Rattle.descriptor_reading.proofs.Placed.{not-there, is-at, stands-at, low-enough}
+use Rattle.known_walk.specs.Known.{knownCursors, numbered, knownTrace}
+use Rattle.descriptor_reading.specs.Descriptor.{upidOf, upid}
+use Rattle.known_walk.proofs.Placed.{not-there, is-at, stands-at, low-enough}
 use Rattle.descriptor_reading.proofs.Told.{upid-told, none-upid}
 use Rattle.descriptor_reading.proofs.upid.Statement.{statement}
 use Rattle.descriptor_reading.proofs.upid.Tie as tie

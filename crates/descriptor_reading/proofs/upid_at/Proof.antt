@@ -3,8 +3,9 @@
 use mathlib.Core.Path.{sym, ap, _∙_}
 use Prim.Native.Nat.{ℕ}
 use borrow.Author.Needs.{needs}
-use Rattle.descriptor_reading.specs.Descriptor.{standingTrace, upidOf, standingUpid}
-use Rattle.descriptor_reading.proofs.Placed.{no-rows, at-is, stands-there, low-enough}
+use Rattle.known_walk.specs.Known.{standingTrace}
+use Rattle.descriptor_reading.specs.Descriptor.{upidOf, standingUpid}
+use Rattle.known_walk.proofs.Placed.{no-rows, at-is, stands-there, low-enough}
 use Rattle.descriptor_reading.proofs.Told.{upid-told, none-upid}
 use Rattle.descriptor_reading.proofs.upid_at.Statement.{statement}
 use Rattle.descriptor_reading.proofs.upid_at.Tie as tie

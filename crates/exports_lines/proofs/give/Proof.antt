@@ -1,18 +1,14 @@
 -- `exports_lines::give` meets its contract.
 -- Assumes nothing.
 use borrow.Author.Needs.{needs}
-use mathlib.Core.Path.{_≡_, sym, ap, _∙_}
-use mathlib.Core.List.{List, [], _∷_}
+use mathlib.Core.Path.{sym, ap, _∙_}
+use mathlib.Core.List.{[], _∷_}
 use Prim.Native.Nat.{ℕ}
 use Rattle.wire.specs.Given.{these}
 use Rattle.wire.proofs.Given.{given-as, not-given}
 use Rattle.exports_lines.specs.Numbers.{turnNumbers}
 use Rattle.exports_lines.proofs.give.Statement.{statement}
 use Rattle.exports_lines.proofs.give.Tie as tie
-use Rattle.exports_lines.proofs.give.Reads as reads
-use Rattle.exports_lines.proofs.give.Lts as lts
-use Rattle.exports_lines.proofs.held_number.Reads as held-number-reads
-use Rattle.wire.proofs.give_three.Reads as give-three-reads
 
 enum-known-answer : tie.Need-enum-known-answer
 enum-known-answer c = search needs
@@ -30,14 +26,14 @@ same-length : tie.Need-same-length
 same-length c = search needs
 
 returns : tie.Need-returns
-returns c = 
+returns c =
     let answer = c .before .before .before .before .before .before .answer .given in
     given-as (c .before .before .before .before .before .before .before .before .before .args .turn .now)
     (ap (λ (n : ℕ). these (n ∷ answer .0 .1 .0 ∷ answer .0 .1 .1 .0 ∷ [])) (c .before .before .before .before .held-number .ensures) ∙ ap turnNumbers (sym (answer .1)))
     (c .before .before .give-three .ensures)
 
 returns-2 : tie.Need-returns-2
-returns-2 c = 
+returns-2 c =
     let answer = c .before .answer2 .given in
     given-as (c .before .before .before .before .args .turn .now) (ap turnNumbers (sym (answer .1))) (not-given (c .before .before .before .before .args .turn .now) (answer .0 .0))
 

@@ -6,8 +6,6 @@ use borrow.Author.Tests.{le-leb, lt-leb}
 use Rattle.lines.specs.declared.answers.Held.{Held}
 use Rattle.exports_lines.proofs.held_of.Statement.{statement}
 use Rattle.exports_lines.proofs.held_of.Tie as tie
-use Rattle.exports_lines.proofs.held_of.Reads as reads
-use Rattle.exports_lines.proofs.held_of.Lts as lts
 
 returns : tie.Need-returns
 returns c = ap (λ (b : Bool). cond b (Held.Characters (c .before .args .n)) Held.TooLong) (sym (le-leb _ _ (c .if1 .taken)))

@@ -1,17 +1,12 @@
 -- `exports_lines::timpanimist_last_line` meets its contract.
 -- Assumes nothing.
 use borrow.Author.Needs.{needs}
-use mathlib.Core.Path.{_≡_, ap, _∙_}
+use mathlib.Core.Path.{ap, _∙_}
 use Rattle.lines.specs.declared.answers.Held.{Held}
 use Rattle.lines.specs.Turns.{lastAnswer, lastOut}
 use Rattle.wire.specs.Wire.{wire}
 use Rattle.exports_lines.proofs.timpanimist_last_line.Statement.{statement}
 use Rattle.exports_lines.proofs.timpanimist_last_line.Tie as tie
-use Rattle.exports_lines.proofs.timpanimist_last_line.Reads as reads
-use Rattle.exports_lines.proofs.timpanimist_last_line.Lts as lts
-use Rattle.exports_lines.proofs.held_of.Reads as held-of-reads
-use Rattle.lines.proofs.last_line.Reads as last-line-reads
-use Rattle.wire.proofs.number.Reads as number-reads
 
 held-of-requires : tie.Need-held-of-requires
 held-of-requires c κs = search needs
@@ -26,7 +21,7 @@ same-length : tie.Need-same-length
 same-length c = search needs
 
 returns : tie.Need-returns
-returns c = 
+returns c =
     let a = c .before .before .before .before .before .before .before .before .args in
     let last-line = c .before .before .before .last-line in
     let held-of = c .before .before .before .before .before .held-of in (

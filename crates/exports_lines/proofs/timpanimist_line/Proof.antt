@@ -1,17 +1,12 @@
 -- `exports_lines::timpanimist_line` meets its contract.
 -- Assumes nothing.
 use borrow.Author.Needs.{needs}
-use mathlib.Core.Path.{_≡_, ap, _∙_}
+use mathlib.Core.Path.{ap, _∙_}
 use Rattle.line.specs.declared.Line.{Line}
 use Rattle.line.specs.Line.{spellAnswer, spellInto}
 use Rattle.wire.specs.Wire.{wire}
 use Rattle.exports_lines.proofs.timpanimist_line.Statement.{statement}
 use Rattle.exports_lines.proofs.timpanimist_line.Tie as tie
-use Rattle.exports_lines.proofs.timpanimist_line.Reads as reads
-use Rattle.exports_lines.proofs.timpanimist_line.Lts as lts
-use Rattle.line.proofs.answer.Reads as answer-reads
-use Rattle.line.proofs.spell.Reads as spell-reads
-use Rattle.wire.proofs.number.Reads as number-reads
 
 answer-requires : tie.Need-answer-requires
 answer-requires c κs = search needs
@@ -26,7 +21,7 @@ same-length : tie.Need-same-length
 same-length c = search needs
 
 returns : tie.Need-returns
-returns c = 
+returns c =
     let out = c .before .before .before .before .before .before .before .before .args .out .now in
     let spell = c .before .before .before .spell in
     let answer = c .before .before .before .before .before .answer in (

@@ -1,10 +1,9 @@
 -- `exports_lines::timpanimist_lines` meets its contract: with no room for the three numbers no turn is taken.
 -- Assumes nothing.
 use borrow.Author.Needs.{needs}
-use mathlib.Core.Path.{_≡_, ap, _∙_}
+use mathlib.Core.Path.{ap, _∙_}
 use native.Mathlib.Omega.{arith}
 use Rattle.lines.specs.declared.answers.Held.{Held}
-use Rattle.lines.specs.declared.answers.Turn.{Turn}
 use Rattle.lines.specs.Turns.{turnAnswer, turnCarry, turnOut}
 use Rattle.wire.specs.Wire.{wire}
 use Rattle.wire.proofs.Handed.{handed}
@@ -12,18 +11,12 @@ use Rattle.exports_lines.specs.Numbers.{heldOf, turnNumbers}
 use Rattle.exports_lines.proofs.Short.{short, stays, changes}
 use Rattle.exports_lines.proofs.timpanimist_lines.Statement.{statement}
 use Rattle.exports_lines.proofs.timpanimist_lines.Tie as tie
-use Rattle.exports_lines.proofs.timpanimist_lines.Reads as reads
-use Rattle.exports_lines.proofs.timpanimist_lines.Lts as lts
-use Rattle.exports_lines.proofs.give.Reads as give-reads
-use Rattle.exports_lines.proofs.held_of.Reads as held-of-reads
-use Rattle.lines.proofs.turn.Reads as turn-reads
-use Rattle.wire.proofs.number.Reads as number-reads
 
 number-requires : tie.Need-number-requires
 number-requires c κs = search needs
 
 returns : tie.Need-returns
-returns c = 
+returns c =
     let a = c .before .before .before .before .before .before .args in
     let few = c .before .if1 .taken in
     let none = short (heldOf (a .held)) (a .input .now) (a .carry .now) (a .out .now) (a .turn .now) few in (
@@ -55,7 +48,7 @@ same-length-3 : tie.Need-same-length-3
 same-length-3 c = search needs
 
 returns-2 : tie.Need-returns-2
-returns-2 c = 
+returns-2 c =
     let a = c .before .before .before .before .before .before .before .before .before .before .before .before .before .before .before .before .before .before .args in
     let held-of = c .before .before .before .before .before .before .before .before .before .before .before .before .held-of in
     let turn = c .before .before .before .before .before .before .before .before .before .turn in

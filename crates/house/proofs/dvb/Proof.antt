@@ -7,7 +7,7 @@ use Prim.Native.Nat.{ℕ}
 use native.Mathlib.Omega.{arith}
 use borrow.Author.Needs.{needs}
 use Rattle.grammar.specs.Meaning.{isAmong}
-use Rattle.reading.proofs.Asked.{when-open, when-refused}
+use Rattle.command_questions.proofs.Asked.{when-open, when-refused}
 use Rattle.house.specs.declared.answers.Dvb.{Dvb}
 use Rattle.house.specs.House.{dvb}
 use Rattle.house.proofs.Header.{type-there, of-two, of-neither}

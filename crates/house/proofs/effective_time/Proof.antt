@@ -4,7 +4,7 @@ use mathlib.Core.Path.{sym, ap, _∙_}
 use Prim.Native.Nat.{ℕ}
 use borrow.Author.Needs.{needs}
 use Rattle.command_reading.specs.Command.{command}
-use Rattle.reading.proofs.Asked.{when-open, when-refused}
+use Rattle.command_questions.proofs.Asked.{when-open, when-refused}
 use Rattle.house.specs.House.{effectiveBy, effectiveTime}
 use Rattle.house.proofs.Header.{adjustment-there}
 use Rattle.house.proofs.effective_time.Statement.{statement}

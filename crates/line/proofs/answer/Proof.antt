@@ -4,9 +4,6 @@ use borrow.Author.Needs.{needs}
 use Rattle.line.specs.Line.{lineAnswer}
 use Rattle.line.proofs.answer.Statement.{statement}
 use Rattle.line.proofs.answer.Tie as tie
-use Rattle.line.proofs.answer.Reads as reads
-use Rattle.line.proofs.answer.Lts as lts
-use Rattle.line.proofs.answer_in.Reads as answer-in-reads
 
 slice-aggregate-answer-in : tie.Need-slice-aggregate-answer-in
 slice-aggregate-answer-in c = search needs

@@ -1,7 +1,7 @@
 -- `line::answer_in` meets its contract: a refusal of the text returns before the section is read.
 -- Assumes nothing.
 use borrow.Author.Needs.{needs}
-use mathlib.Core.Path.{_≡_, sym, ap, _∙_}
+use mathlib.Core.Path.{sym, ap, _∙_}
 use mathlib.Core.List.{List}
 use Prim.Native.Nat.{ℕ, _≤_}
 use native.Mathlib.Omega.{arith}
@@ -12,12 +12,6 @@ use Rattle.line.specs.Line.{inMillis, refusedText}
 use Rattle.line.proofs.Answered.{refused, inside as room, answered}
 use Rattle.line.proofs.answer_in.Statement.{statement}
 use Rattle.line.proofs.answer_in.Tie as tie
-use Rattle.line.proofs.answer_in.Reads as reads
-use Rattle.line.proofs.answer_in.Lts as lts
-use Rattle.house.proofs.break_answer.Reads as break-answer-reads
-use Rattle.line.proofs.in_millis.Reads as in-millis-reads
-use Rattle.line.proofs.refused_text.Reads as refused-text-reads
-use Rattle.text.proofs.to_section.Reads as to-section-reads
 
 inside : (c : tie.After-known-told) → c .before .read .given .0 .0 ≤ length (c .before .before .before .before .before .to-section .last .1 .0)
 inside c =
@@ -65,7 +59,7 @@ same-length-2 : tie.Need-same-length-2
 same-length-2 c = search needs
 
 returns-2 : tie.Need-returns-2
-returns-2 c = 
+returns-2 c =
     let a = c .before .before .before .before .before .before .before .before .before .before .before .before .args in
     let read = c .before .before .before .before .read in
     let to-section = c .before .before .before .before .before .before .before .before .to-section in

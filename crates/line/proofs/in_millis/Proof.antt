@@ -6,9 +6,6 @@ use Rattle.line.specs.declared.Line.{Line}
 use Rattle.line.specs.Line.{inMillis}
 use Rattle.line.proofs.in_millis.Statement.{statement}
 use Rattle.line.proofs.in_millis.Tie as tie
-use Rattle.line.proofs.in_millis.Reads as reads
-use Rattle.line.proofs.in_millis.Lts as lts
-use Rattle.units.proofs.clock.Ticks.to_millis.Reads as to-millis-reads
 
 enum-told : tie.Need-enum-told
 enum-told c = search needs

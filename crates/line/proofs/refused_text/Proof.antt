@@ -5,8 +5,6 @@ use mathlib.Core.Path.{sym, ap}
 use Rattle.line.specs.Line.{refusedText}
 use Rattle.line.proofs.refused_text.Statement.{statement}
 use Rattle.line.proofs.refused_text.Tie as tie
-use Rattle.line.proofs.refused_text.Reads as reads
-use Rattle.line.proofs.refused_text.Lts as lts
 
 enum-known-read : tie.Need-enum-known-read
 enum-known-read c = search needs

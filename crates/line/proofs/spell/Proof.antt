@@ -11,10 +11,6 @@ use Rattle.line.specs.Line.{spelled}
 use Rattle.line.proofs.Put.{all, front, front-inside, front-count, short, no-room, written}
 use Rattle.line.proofs.spell.Statement.{statement}
 use Rattle.line.proofs.spell.Tie as tie
-use Rattle.line.proofs.spell.Reads as reads
-use Rattle.line.proofs.spell.Lts as lts
-use Rattle.line.proofs.spelling.copy.Reads as copy-reads
-use Rattle.line.proofs.spelling.put.Reads as put-reads
 
 slice-aggregate-put : tie.Need-slice-aggregate-put
 slice-aggregate-put c = search needs

@@ -14,12 +14,6 @@ use Rattle.lines.specs.Turns.{heldWith, carryWith}
 use Rattle.lines.proofs.Turning.{Going, start, turn-refused, ends, stops, goes, end-inside, tail-is, put-tail}
 use Rattle.lines.proofs.turn.Statement.{statement}
 use Rattle.lines.proofs.turn.Tie as tie
-use Rattle.lines.proofs.turn.Reads as reads
-use Rattle.lines.proofs.turn.Lts as lts
-use Rattle.line.proofs.spell.Reads as spell-reads
-use Rattle.lines.proofs.carry.ended.Reads as ended-reads
-use Rattle.lines.proofs.carry.keep.Reads as keep-reads
-use Rattle.lines.proofs.line_end.Reads as line-end-reads
 
 abbrev Inv-loop : tie.InvT-loop
 Inv-loop input carry₀ out₀ section₀ held₀ taken₀ written₀ carry out section held taken written = (length section ≡ 4098) × Going held₀ input carry₀ out₀ held carry out taken written
@@ -28,12 +22,12 @@ abbrev μ-loop : tie.MeasureT-loop
 μ-loop input carry₀ out₀ section₀ held₀ taken₀ written₀ carry out section held taken written = length input - taken
 
 returns : tie.Need-returns Inv-loop μ-loop
-returns c = 
+returns c =
     let a = c .before .before .before .before .args in
     turn-refused (a .held) (a .input .now) (a .carry .now) (a .out .now) (c .if1 .taken)
 
 loop-holds : tie.Need-loop-holds Inv-loop μ-loop
-loop-holds c = 
+loop-holds c =
     let a = c .before .before .before .before .args in
     (refl, start (a .held) (a .input .now) (a .carry .now) (a .out .now))
 
@@ -59,7 +53,7 @@ same-length-2 : tie.Need-same-length-2 Inv-loop μ-loop
 same-length-2 c = search needs
 
 returns-2 : tie.Need-returns-2 Inv-loop μ-loop
-returns-2 c = 
+returns-2 c =
     let input = c .before .before .before .before .before .before .before .before .before .before .before .before .args .input .now in
     let loop = c .before .before .before .before .before .before .before .loop in
     let line-end = c .before .before .before .before .before .before .line-end in
@@ -111,7 +105,7 @@ same-length-4 : tie.Need-same-length-4 Inv-loop μ-loop
 same-length-4 c = search needs
 
 returns-3 : tie.Need-returns-3 Inv-loop μ-loop
-returns-3 c = 
+returns-3 c =
     let loop = c .before .before .before .before .before .before .before .before .before .before .before .before .before .before .before .loop in
     let line-end = c .before .before .before .before .before .before .before .before .before .before .before .before .before .before .line-end in
     let ended = c .before .before .before .before .before .before .before .before .before .ended in
@@ -119,8 +113,8 @@ returns-3 c =
     let tail = tail-is (loop .written) (loop .out) in
     let none = spell-refused (ended .result) _ _ (sym (spell .ensures .0) ∙ c .enum-told .given .1) in
     let is =
-        stops (loop .inv .1) (omega (arith, c .before .before .before .before .before .before .before .before .before .before .before .before .before .before .before .before .if1 .left)) (line-end .result) (line-end .ensures) (c .before .before .before .before .before .before .before .before .before .before .before .before .before .if2 .left) (ended .result)
-        (ended .ensures .0) (omega (arith, none .0, ap length tail)) in (
+    stops (loop .inv .1) (omega (arith, c .before .before .before .before .before .before .before .before .before .before .before .before .before .before .before .before .if1 .left)) (line-end .result) (line-end .ensures) (c .before .before .before .before .before .before .before .before .before .before .before .before .before .if2 .left) (ended .result)
+    (ended .ensures .0) (omega (arith, none .0, ap length tail)) in (
       is .0,
       ended .ensures .1 ∙ is .1,
       put-tail (loop .written) (loop .out) _

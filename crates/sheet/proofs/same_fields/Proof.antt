@@ -10,7 +10,7 @@ use lib.ListN.{length, getD}
 use borrow.Author.Tests.{eq-eqb, ne-eqb}
 use Rattle.bits.specs.Bits.{fieldOf, readAll}
 use Rattle.sheet.specs.Sheet.{same}
-use Rattle.sheet.proofs.Spans.{span, span-next, span-none}
+use Rattle.sheet_reading.proofs.Spans.{span, span-next, span-none}
 use Rattle.sheet.proofs.same_fields.Statement.{statement}
 use Rattle.sheet.proofs.same_fields.Tie as tie
 

@@ -8,7 +8,7 @@ use lib.ListN.{length, take, drop}
 use borrow.Author.Tests.{not-true, not-false}
 use Rattle.bits.specs.Bits.{readAll}
 use Rattle.sheet.specs.Sheet.{same, isSheetOf}
-use Rattle.sheet.proofs.Plans.{Laid, laid-out}
+use Rattle.sheet_reading.proofs.Plans.{Laid, laid-out}
 use Rattle.sheet.proofs.Same.{other-count, two-parts}
 use borrow.Author.Needs.{needs}
 use Rattle.sheet.proofs.same_sheet.Statement.{statement}

@@ -8,7 +8,7 @@ use lib.ListN.{length, getD}
 use borrow.Author.Needs.{needs}
 use Rattle.bits.specs.Bits.{writeAll}
 use Rattle.sheet.specs.Sheet.{pairs, fieldsBetween}
-use Rattle.sheet.proofs.Spans.{span, span-next, span-none}
+use Rattle.sheet_reading.proofs.Spans.{span, span-next, span-none}
 use Rattle.sheet.proofs.write_fields.Statement.{statement}
 use Rattle.sheet.proofs.write_fields.Tie as tie
 

@@ -10,10 +10,6 @@ use Rattle.lines.proofs.Turning.{tail-is}
 use Rattle.lines.proofs.Moving.{moved-within}
 use Rattle.tally.proofs.all.Statement.{statement}
 use Rattle.tally.proofs.all.Tie as tie
-use Rattle.tally.proofs.all.Reads as reads
-use Rattle.tally.proofs.all.Lts as lts
-use Rattle.lines.proofs.turn.Reads as turn-reads
-use Rattle.tally.proofs.say.Reads as say-reads
 
 abbrev Inv-loop : tie.InvT-loop
 Inv-loop input carry₀ out₀ held₀ at₀ carry out held at = (at ≤ length input) × (5464 ≤ length carry) × (23 ≤ length out) × (length carry ≡ length carry₀) × (length out ≡ length out₀)
@@ -76,7 +72,7 @@ loop-less : tie.Need-loop-less Inv-loop μ-loop
 loop-less c = omega (arith, went (c .before .before .before) .0, went (c .before .before .before) .2)
 
 loop-again : tie.Need-loop-again Inv-loop μ-loop
-loop-again c = 
+loop-again c =
     let loop = c .before .before .before .before .before .before .before .before .before .before .before .before .before .before .before .loop in
     let carry = c .before .before .before .before .before .before .before .before .before .before .turn .kept .1 .1 .0 in
     let out = c .before .before .before .before .before .before .before .before .before .before .turn .kept .1 .1 .1 .0 in

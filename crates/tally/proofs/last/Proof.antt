@@ -7,10 +7,6 @@ use lib.Seq.{length-take-le}
 use Rattle.lines.proofs.Moving.{last-within}
 use Rattle.tally.proofs.last.Statement.{statement}
 use Rattle.tally.proofs.last.Tie as tie
-use Rattle.tally.proofs.last.Reads as reads
-use Rattle.tally.proofs.last.Lts as lts
-use Rattle.lines.proofs.last_line.Reads as last-line-reads
-use Rattle.tally.proofs.say.Reads as say-reads
 
 last-line-requires : tie.Need-last-line-requires
 last-line-requires c κs = search needs
@@ -19,7 +15,7 @@ enum-known-n : tie.Need-enum-known-n
 enum-known-n c = search needs
 
 slice-reshare-prefix-say : tie.Need-slice-reshare-prefix-say
-slice-reshare-prefix-say c = 
+slice-reshare-prefix-say c =
     let a = c .before .before .before .before .before .before .before .before .before .args in
     let last-line = c .before .before .before .before .before .last-line in
     omega (arith, last-within (a .held) (a .carry .now) (a .out .now) _ (sym (last-line .ensures .0) ∙ c .before .n .given .1), last-line .kept .1 .1 .0)

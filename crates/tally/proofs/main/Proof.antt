@@ -5,10 +5,6 @@ use mathlib.Core.Path.{_≡_}
 use lib.ListN.{length}
 use Rattle.tally.proofs.main.Statement.{statement}
 use Rattle.tally.proofs.main.Tie as tie
-use Rattle.tally.proofs.main.Reads as reads
-use Rattle.tally.proofs.main.Lts as lts
-use Rattle.io.proofs.large_buffer.Reads as large-buffer-reads
-use Rattle.tally.proofs.some.Reads as some-reads
 
 abbrev Inv-loop : tie.InvT-loop
 Inv-loop input₀ out₀ carry₀ held₀ turns₀ input out carry held turns = (65536 ≡ length input) × (65536 ≡ length out) × (5464 ≡ length carry)

@@ -8,8 +8,8 @@ use lib.ListN.{length}
 use borrow.Author.Needs.{needs}
 use Rattle.descriptors.specs.declared.Step.{Step}
 use Rattle.descriptors.specs.Walk.{stepOf}
-use Rattle.descriptor_reading.specs.Descriptor.{knownCursors}
-use Rattle.descriptor_reading.proofs.Known.{less-left}
+use Rattle.known_walk.specs.Known.{knownCursors}
+use Rattle.known_walk.proofs.KnownAmong.{less-left}
 use Rattle.house.specs.House.{labelAt}
 use Rattle.house.proofs.Labels.{label-left, all-labels, no-label, unknown-label, done-label, broken-label, label-here, empty-here, no-upid-here}
 use Rattle.house.proofs.walk.first_label.Statement.{statement}

@@ -13,7 +13,7 @@ use Rattle.descriptors.specs.Walk.{stepOf}
 use Rattle.descriptor_reading.specs.declared.answers.Duration.{Duration}
 use Rattle.descriptor_reading.specs.declared.answers.Descriptor.{Descriptor}
 use Rattle.descriptor_reading.specs.Descriptor.{standing}
-use Rattle.descriptor_reading.proofs.Known.{less-left}
+use Rattle.known_walk.proofs.KnownAmong.{less-left}
 use Rattle.house.specs.House.{knownReadings, opens, carried, longer}
 use Rattle.house.proofs.Left.{left, all-left, nothing-read, known-left, unknown-left, done-left, broken-left}
 use Rattle.house.proofs.Signal.{Found, one-more, all-found}

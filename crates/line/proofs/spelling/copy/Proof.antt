@@ -4,12 +4,10 @@ use mathlib.Core.Path.{_≡_, refl, sym, ap, ap₂, _∙_}
 use mathlib.Core.List.{List, _++_}
 use Prim.Native.Nat.{ℕ, suc, _+_, _-_, _≤_}
 use native.Mathlib.Omega.{arith}
-use lib.ListN.{length, getD, set, take, drop, length-set}
+use lib.ListN.{length, getD, set, drop, length-set}
 use lib.Seq.{paste, paste-zero, paste-suc, take-length}
 use Rattle.line.proofs.spelling.copy.Statement.{statement}
 use Rattle.line.proofs.spelling.copy.Tie as tie
-use Rattle.line.proofs.spelling.copy.Reads as reads
-use Rattle.line.proofs.spelling.copy.Lts as lts
 
 abbrev Inv-loop : tie.InvT-loop
 Inv-loop characters out₀ i₀ i-end out i = (i ≤ length characters) × (length out ≡ length out₀) × (out ≡ paste out₀ 0 characters i)
@@ -33,7 +31,7 @@ loop-less : tie.Need-loop-less Inv-loop μ-loop
 loop-less c = omega arith
 
 loop-again : tie.Need-loop-again Inv-loop μ-loop
-loop-again c = 
+loop-again c =
     let loop = c .before .before .loop in
     let a = c .before .before .before .args in
     let one : suc (loop .i) ≡ loop .i + 1 = omega arith in
@@ -50,7 +48,7 @@ same-length : tie.Need-same-length Inv-loop μ-loop
 same-length c = c .before .loop .inv .1
 
 returns : tie.Need-returns Inv-loop μ-loop
-returns c = 
+returns c =
     let loop = c .before .loop in
     let a = c .before .before .args in
     let all : loop .i ≡ length (a .characters .now) = omega arith in

@@ -9,9 +9,6 @@ use lib.ListN.{length, length-set, take-append-drop}
 use Rattle.line.proofs.Digits.{Writing, few, final, write-down, written}
 use Rattle.line.proofs.spelling.decimal.Statement.{statement}
 use Rattle.line.proofs.spelling.decimal.Tie as tie
-use Rattle.line.proofs.spelling.decimal.Reads as reads
-use Rattle.line.proofs.spelling.decimal.Lts as lts
-use Rattle.line.proofs.spelling.places.Reads as places-reads
 
 abbrev Inv-loop : tie.InvT-loop
 Inv-loop n characters₀ at count rest₀ i₀ characters rest i = (count ≤ 20) × (i ≤ count) × (length characters ≡ length characters₀) × Writing characters₀ at count n characters i rest

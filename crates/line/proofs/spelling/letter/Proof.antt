@@ -5,8 +5,6 @@ use native.Mathlib.Omega.{arith}
 use lib.ListN.{length-set}
 use Rattle.line.proofs.spelling.letter.Statement.{statement}
 use Rattle.line.proofs.spelling.letter.Tie as tie
-use Rattle.line.proofs.spelling.letter.Reads as reads
-use Rattle.line.proofs.spelling.letter.Lts as lts
 
 slice-write-characters : tie.Need-slice-write-characters
 slice-write-characters c = search needs

@@ -9,9 +9,6 @@ use Rattle.line.proofs.Digits.{few}
 use Rattle.line.proofs.Put.{one-more, after-two, as-long}
 use Rattle.line.proofs.spelling.number.Statement.{statement}
 use Rattle.line.proofs.spelling.number.Tie as tie
-use Rattle.line.proofs.spelling.number.Reads as reads
-use Rattle.line.proofs.spelling.number.Lts as lts
-use Rattle.line.proofs.spelling.decimal.Reads as decimal-reads
 
 slice-write-characters : tie.Need-slice-write-characters
 slice-write-characters c = search needs

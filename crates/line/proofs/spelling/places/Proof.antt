@@ -5,8 +5,6 @@ use native.Mathlib.Omega.{arith}
 use Rattle.line.proofs.Digits.{Counting, count-more, counted}
 use Rattle.line.proofs.spelling.places.Statement.{statement}
 use Rattle.line.proofs.spelling.places.Tie as tie
-use Rattle.line.proofs.spelling.places.Reads as reads
-use Rattle.line.proofs.spelling.places.Lts as lts
 
 abbrev Inv-loop : tie.InvT-loop
 Inv-loop n count₀ rest₀ count rest = Counting n count rest
@@ -24,7 +22,7 @@ loop-less : tie.Need-loop-less Inv-loop μ-loop
 loop-less c = omega arith
 
 loop-again : tie.Need-loop-again Inv-loop μ-loop
-loop-again c = 
+loop-again c =
     let loop = c .before .loop in
     count-more (c .before .before .args .n) (loop .count) (loop .rest) (loop .inv .left) (loop .inv .sum) (loop .inv .small) (loop .inv .same) (c .loop-test .taken)
 

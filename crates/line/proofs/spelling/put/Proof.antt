@@ -6,11 +6,6 @@ use Rattle.line.specs.Line.{numbered, spelled}
 use Rattle.line.proofs.Put.{told}
 use Rattle.line.proofs.spelling.put.Statement.{statement}
 use Rattle.line.proofs.spelling.put.Tie as tie
-use Rattle.line.proofs.spelling.put.Reads as reads
-use Rattle.line.proofs.spelling.put.Lts as lts
-use Rattle.line.proofs.spelling.letter.Reads as letter-reads
-use Rattle.line.proofs.spelling.number.Reads as spelling-number-reads
-use Rattle.units.proofs.refusals.Refusal.number.Reads as refusals-Refusal-number-reads
 
 enum-known-line : tie.Need-enum-known-line
 enum-known-line c = search needs

@@ -1,6 +1,6 @@
 -- `lines::carry::append` meets its contract. The invariant: the first i characters are copied.
 -- Assumes nothing.
-use mathlib.Core.Path.{_≡_, refl, sym, ap, _∙_}
+use mathlib.Core.Path.{_≡_, refl, ap, _∙_}
 use mathlib.Core.List.{List, _++_}
 use Prim.Native.Nat.{ℕ, suc, _+_, _-_, _≤_}
 use native.Mathlib.Omega.{arith}
@@ -8,8 +8,6 @@ use lib.ListN.{length, getD, set, take, drop, length-set}
 use lib.Seq.{paste, paste-zero, paste-suc, take-length}
 use Rattle.lines.proofs.carry.append.Statement.{statement}
 use Rattle.lines.proofs.carry.append.Tie as tie
-use Rattle.lines.proofs.carry.append.Reads as reads
-use Rattle.lines.proofs.carry.append.Lts as lts
 
 abbrev Inv-loop : tie.InvT-loop
 Inv-loop part carry₀ at i₀ i-end carry i = (i ≤ length part) × (length carry ≡ length carry₀) × (carry ≡ paste carry₀ at part i)
@@ -36,7 +34,7 @@ loop-less : tie.Need-loop-less Inv-loop μ-loop
 loop-less c = omega arith
 
 loop-again : tie.Need-loop-again Inv-loop μ-loop
-loop-again c = 
+loop-again c =
     let loop = c .before .before .loop in
     let a = c .before .before .before .args in
     let one : suc (loop .i) ≡ loop .i + 1 = omega arith in
@@ -52,7 +50,7 @@ same-length : tie.Need-same-length Inv-loop μ-loop
 same-length c = c .before .loop .inv .1
 
 returns : tie.Need-returns Inv-loop μ-loop
-returns c = 
+returns c =
     let loop = c .before .loop in
     let a = c .before .before .args in
     let all : loop .i ≡ length (a .part .now) = omega arith in

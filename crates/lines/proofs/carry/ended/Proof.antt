@@ -6,13 +6,9 @@ use Rattle.line.specs.Line.{answerIn}
 use Rattle.lines.specs.declared.answers.Held.{Held}
 use Rattle.lines.specs.Turns as says
 use Rattle.lines.specs.Turns.{ended}
-use Rattle.lines.proofs.Holding.{ended-whole, ended-long, carry-whole, carry-joined}
+use Rattle.lines.proofs.Holding.{ended-whole, carry-whole, carry-joined}
 use Rattle.lines.proofs.carry.ended.Statement.{statement}
 use Rattle.lines.proofs.carry.ended.Tie as tie
-use Rattle.lines.proofs.carry.ended.Reads as reads
-use Rattle.lines.proofs.carry.ended.Lts as lts
-use Rattle.line.proofs.answer_in.Reads as answer-in-reads
-use Rattle.lines.proofs.carry.joined.Reads as joined-reads
 
 enum-known-held : tie.Need-enum-known-held
 enum-known-held c = search needs
@@ -30,7 +26,7 @@ same-length : tie.Need-same-length
 same-length c = search needs
 
 returns : tie.Need-returns
-returns c = 
+returns c =
     let a = c .before .before .before .before .before .before .before .before .before .before .before .args in
     let held = c .before .before .before .before .before .before .held .given in
     let none : a .held ≡ Held.Characters 0 = held .1 ∙ ap Held.Characters (c .before .before .before .before .if1 .taken) in (
@@ -47,7 +43,7 @@ same-length-3 : tie.Need-same-length-3
 same-length-3 c = search needs
 
 returns-2 : tie.Need-returns-2
-returns-2 c = 
+returns-2 c =
     let a = c .before .before .before .before .before .before .before .before .before .before .before .before .before .before .args in
     let held = c .before .before .before .before .before .before .before .before .before .held .given in
     let joined = c .before .before .before .before .joined in (
@@ -57,7 +53,7 @@ returns-2 c =
 
 returns-3 : tie.Need-returns-3
 unfolding ended
-returns-3 c = 
+returns-3 c =
     let a = c .before .before .before .before .before .args in
     let long : Held.TooLong ≡ a .held = sym (c .enum-told .given .1) in (
       ap (λ (h : Held). says.ended h (a .carry .now) (a .part .now)) long,

@@ -1,9 +1,8 @@
 -- `lines::carry::joined` meets its contract: the line is answered where it stands in the carry buffer.
 -- Assumes nothing.
 use borrow.Author.Needs.{needs}
-use mathlib.Core.Path.{_≡_, sym, ap, _∙_}
-use mathlib.Core.List.{List}
-use Prim.Native.Nat.{ℕ, _≤_}
+use mathlib.Core.Path.{sym, ap, _∙_}
+use Prim.Native.Nat.{_≤_}
 use native.Mathlib.Omega.{arith}
 use lib.ListN.{length, take}
 use lib.Seq.{length-take-le}
@@ -12,10 +11,6 @@ use Rattle.lines.specs.declared.answers.Held.{Held}
 use Rattle.lines.proofs.Holding.{held-most, ended-at, ended-long}
 use Rattle.lines.proofs.carry.joined.Statement.{statement}
 use Rattle.lines.proofs.carry.joined.Tie as tie
-use Rattle.lines.proofs.carry.joined.Reads as reads
-use Rattle.lines.proofs.carry.joined.Lts as lts
-use Rattle.line.proofs.answer_in.Reads as answer-in-reads
-use Rattle.lines.proofs.carry.keep.Reads as keep-reads
 
 -- the line ends inside the buffer
 inside : (c : tie.After-known-told) → c .before .end .given .0 .0 ≤ length (c .before .before .before .before .before .keep .last .1 .1 .0)
@@ -50,7 +45,7 @@ same-length-2 : tie.Need-same-length-2
 same-length-2 c = search needs
 
 returns : tie.Need-returns
-returns c = 
+returns c =
     let a = c .before .before .before .before .before .before .before .before .before .before .before .before .before .before .before .args in
     let keep = c .before .before .before .before .before .before .before .before .before .before .keep in
     let end = c .before .before .before .before .before .before .end .given in
@@ -65,7 +60,7 @@ same-length-3 : tie.Need-same-length-3
 same-length-3 c = search needs
 
 returns-2 : tie.Need-returns-2
-returns-2 c = 
+returns-2 c =
     let a = c .before .before .before .before .before .before .before .before .before .args in
     let keep = c .before .before .before .before .keep in (
       ended-long (Held.Characters (a .n)) (a .carry .now) (a .part .now) (sym (keep .ensures .0) ∙ c .enum-told .given .1),

@@ -6,9 +6,6 @@ use native.Mathlib.Omega.{arith}
 use Rattle.lines.proofs.Holding.{fit, no-fit}
 use Rattle.lines.proofs.carry.keep.Statement.{statement}
 use Rattle.lines.proofs.carry.keep.Tie as tie
-use Rattle.lines.proofs.carry.keep.Reads as reads
-use Rattle.lines.proofs.carry.keep.Lts as lts
-use Rattle.lines.proofs.carry.append.Reads as append-reads
 
 enum-known-held : tie.Need-enum-known-held
 enum-known-held c = search needs
@@ -20,13 +17,13 @@ returns : tie.Need-returns
 returns c = search needs
 
 returns-2 : tie.Need-returns-2
-returns-2 c = 
+returns-2 c =
     let a = c .before .before .before .before .before .before .args in
     let held = c .before .before .held .given in
     no-fit (a .held) (held .0 .0) (held .1) (a .carry .now) (a .part .now) (omega arith)
 
 returns-3 : tie.Need-returns-3
-returns-3 c = 
+returns-3 c =
     let a = c .before .before .before .before .before .before .before .args in
     let held = c .before .before .before .held .given in
     no-fit (a .held) (held .0 .0) (held .1) (a .carry .now) (a .part .now) (omega arith)
@@ -41,7 +38,7 @@ same-length : tie.Need-same-length
 same-length c = search needs
 
 returns-4 : tie.Need-returns-4
-returns-4 c = 
+returns-4 c =
     let a = c .before .before .before .before .before .before .before .before .before .before .before .args in
     let held = c .before .before .before .before .before .before .before .held .given in
     let kept = fit (a .held) (held .0 .0) (held .1) (a .carry .now) (a .part .now) (omega arith) in

@@ -1,0 +1,35 @@
+-- The typed questions on the command of a section: rows 1 to 10, then SEALED (17), then NOTHERE (16) where there is no such part.
+-- Assumes nothing.
+use Prim.Native.Nat.{ℕ}
+use mathlib.Core.List.{List}
+use Rattle.units.specs.declared.refusals.Refusal.{Refusal}
+use Rattle.descriptors.specs.declared.Cursor.{Cursor}
+use Rattle.section.specs.declared.Opened.{Opened}
+use Rattle.section.specs.First.{openOf}
+use Rattle.command_reading.specs.declared.answers.Command.{Command}
+use Rattle.command_reading.specs.declared.answers.InsertComponent.{InsertComponent}
+use Rattle.command_reading.specs.declared.answers.Event.{Event}
+use Rattle.command_reading.specs.declared.answers.EventComponent.{EventComponent}
+use Rattle.command_reading.specs.declared.answers.PrivateByte.{PrivateByte}
+use Rattle.command_reading.specs.Command.{commandTrace, insertComponentOf, eventOf, eventComponentOf, privateByteOf}
+use Rattle.command_reading.specs.Command as Says
+
+-- the answer of an open section, with the cursor of its first descriptor, or the refusal of one that cannot be asked
+unfoldable pub asked : {A : Type 0} → Opened → (Refusal → A) → (Cursor → A) → A
+asked (Opened.Open c) refuse answer = answer c
+asked (Opened.Refused r) refuse answer = refuse r
+
+unfoldable pub command : List ℕ → Command
+command s = asked (openOf s) Command.Refused (λ c. Says.command s)
+
+unfoldable pub insertComponent : List ℕ → ℕ → InsertComponent
+insertComponent s n = asked (openOf s) InsertComponent.Refused (λ c. insertComponentOf (commandTrace s) n)
+
+unfoldable pub scheduleEvent : List ℕ → ℕ → Event
+scheduleEvent s n = asked (openOf s) Event.Refused (λ c. eventOf (commandTrace s) n)
+
+unfoldable pub eventComponent : List ℕ → ℕ → ℕ → EventComponent
+eventComponent s n m = asked (openOf s) EventComponent.Refused (λ c. eventComponentOf (commandTrace s) n m)
+
+unfoldable pub privateByte : List ℕ → ℕ → PrivateByte
+privateByte s n = asked (openOf s) PrivateByte.Refused (λ c. privateByteOf (commandTrace s) n)

@@ -1,0 +1,5 @@
+pub mod KnownAmong
+pub mod Stands
+pub mod Placed
+pub mod EachStands
+pub mod StandingRows

@@ -1,0 +1,4 @@
+pub mod Spans
+pub mod Trace
+pub mod Plans
+pub mod SheetRows
