@@ -1,5 +1,5 @@
-// Acceptance and the field sheet for programs in other languages. A slice passes as a pointer and then a length. An answer that is
-// a count or a refusal is one number: the count, or 2^63 plus the refusal's number.
+// Acceptance and the field sheet for programs in other languages. A slice passes as a pointer and then a length. An
+// answer that is a count or a refusal is one number: the count, or 2^63 plus the refusal's number.
 ghost use mathlib.Core.Path.{_≡_};
 ghost use Rattle.section.specs.Accept.{acceptOf};
 ghost use Rattle.sheet.specs.Sheet.{toSheet, toSheetInto, toSection, toSectionInto};

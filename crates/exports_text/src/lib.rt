@@ -1,5 +1,5 @@
-// Bits, the CRC, base64 and the clock for programs in other languages. A slice passes as a pointer and then a length. An answer that
-// is a count or a refusal is one number: the count, or 2^63 plus the refusal's number.
+// Bits, the CRC, base64 and the clock for programs in other languages. A slice passes as a pointer and then a length.
+// An answer that is a count or a refusal is one number: the count, or 2^63 plus the refusal's number.
 ghost use mathlib.Core.Path.{_≡_};
 ghost use Rattle.bits.specs.Bits.{fieldOf, writable, writtenOf};
 ghost use Rattle.units.specs.Clock.{ticks, millisOf, clockSum};
