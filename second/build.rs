@@ -1,5 +1,5 @@
 //! Says where the archive of the proved library is to be found.
-//! Only `tests/compare.rs` asks for it; everything else builds without one.
+//! Only `tests/compare.rs` and `tests/long.rs` ask for it; everything else builds without one.
 
 use std::env;
 use std::path::Path;

@@ -1,5 +1,5 @@
 //! The independent second program: what the papers say, written plainly and by its own route.
-//! It never links the proved library; the two meet only in `tests/compare.rs`.
+//! It never links the proved library; the two meet only in tests.
 #![forbid(unsafe_code)]
 
 pub mod bits;

@@ -1,5 +1,5 @@
 //! The comparison: the second program and the proved library answer the same questions.
-//! This test alone links the proved library's archive.
+//! This test and the long comparison, `long.rs`, alone link the proved library's archive.
 
 mod cases;
 mod proved;

@@ -3,6 +3,7 @@
 use std::io::{self, Read, Write};
 use std::path::{Path, PathBuf};
 use std::process::{Child, ChildStdin, Command, Output, Stdio};
+use std::sync::Once;
 use std::thread;
 use std::time::{Duration, Instant};
 
@@ -23,7 +24,8 @@ pub fn proved() -> Option<Command> {
         let words =
             "skipped: the proved program is for x86-64 Linux, and this machine is another; \
                      the comparison puts the same files through the archive's functions";
-        writeln!(io::stderr(), "{words}").expect("standard error");
+        static SAID: Once = Once::new();
+        SAID.call_once(|| writeln!(io::stderr(), "{words}").expect("standard error"));
         return None;
     }
     let named = std::env::var_os("TIMPANIMIST_TALLY").map(PathBuf::from);
