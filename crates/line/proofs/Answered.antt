@@ -14,7 +14,7 @@ use Rattle.units.specs.declared.refusals.Written.{Written}
 use Rattle.units.specs.Answers.{answer, memory}
 use Rattle.house.specs.House.{breakAnswer}
 use Rattle.text.specs.Text.{readRow, read, readInto, count, decoded}
-use Rattle.text.proofs.Decoded.{length-decoded}
+use Rattle.base64.proofs.Decoded.{length-decoded}
 use Rattle.text.proofs.Rows.{row-long, row-room, accepted}
 use Rattle.line.specs.declared.Line.{Line}
 use Rattle.line.specs.Line.{inMillis, answerBy, answerIn, lineAnswer}

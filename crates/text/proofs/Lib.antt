@@ -1,12 +1,3 @@
-pub mod AllOf
-pub mod Alphabet
-pub mod Counts
-pub mod Decoded
-pub mod Encoded
-pub mod Fill
-pub mod Padding
 pub mod RoundTrip
 pub mod Rows
-pub mod Spare
-pub mod TextBits
 pub mod Vectors

@@ -14,14 +14,15 @@ use Rattle.bits.proofs.Digits.{zeros}
 use Rattle.bits.proofs.Bytes.{AreBytes, bit-lt, bit-past, bytesOf-bit, bytesOf-ext}
 use Rattle.units.specs.declared.refusals.Written.the-variants.{Count}
 use Rattle.text.specs.Text.{character, before, textBit, count, decoded, spare, readRow, read, readInto, textLength, encoded, write, writeInto}
-use Rattle.text.proofs.Alphabet.{character-sextet}
-use Rattle.text.proofs.AllOf.{all-each, all-at}
-use Rattle.text.proofs.Counts.{inside, as-long, all-bits, before-le}
-use Rattle.text.proofs.Decoded.{length-decoded, decoded-bits}
-use Rattle.text.proofs.Encoded.{length-encoded, encoded-at, encoded-whole, sextet-of, count-encoded, encoded-bits}
-use Rattle.text.proofs.Padding.{padding-at}
-use Rattle.text.proofs.Rows.{Accepted, row-none, accepted, reads-as, writes-as, row-written}
-use Rattle.text.proofs.TextBits.{sextet-whole, characterAt-in, characterAt-past}
+use Rattle.base64.proofs.Alphabet.{character-sextet}
+use Rattle.base64.proofs.AllOf.{all-each, all-at}
+use Rattle.base64.proofs.Counts.{inside, as-long, all-bits, before-le}
+use Rattle.base64.proofs.Decoded.{length-decoded, decoded-bits}
+use Rattle.base64.proofs.Encoded.{length-encoded, encoded-at, encoded-whole, sextet-of, count-encoded, encoded-bits}
+use Rattle.base64.proofs.Padding.{padding-at}
+use Rattle.text_writing.proofs.WriteRows.{writes-as, row-written}
+use Rattle.text.proofs.Rows.{Accepted, row-none, accepted, reads-as}
+use Rattle.base64.proofs.TextBits.{sextet-whole, characterAt-in, characterAt-past}
 
 -- the bytes of the text of s are s
 pub decoded-encoded : (s : List ℕ) → AreBytes s → decoded (encoded s) ≡ s

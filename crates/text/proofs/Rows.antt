@@ -1,4 +1,4 @@
--- The row that applies to a text, and to bytes, from the facts that settle it; and what a text that no row refuses is known to be.
+-- The row that applies to a text, from the facts that settle it; and what a text that no row refuses is known to be.
 -- Assumes nothing.
 use mathlib.Core.Path.{_≡_, sym, ap}
 use mathlib.Core.Bool.{true, false, not, _||_, or-true}
@@ -10,18 +10,13 @@ use borrow.Author.Tests.{lt-ltb, le-ltb, eq-eqb, ne-eqb, ltb-false, eqb-true, no
 use Rattle.bits.proofs.Cases.{neither}
 use Rattle.units.specs.Answers.{answer, memory}
 use Rattle.units.proofs.Rows.{passed}
-use Rattle.text.specs.Text.{before, count, decoded, allOf, spare, readRow, read, readInto, textLength, encoded, writeRow, write, writeInto}
+use Rattle.text.specs.Text.{before, count, decoded, allOf, spare, readRow, read, readInto}
 
 -- the row that applies settles the answer and the lent memory
 pub reads-as : (t out : List ℕ) (row : ℕ) → readRow t (length out) ≡ row
     → (answer row (count t) ≡ read t out) × (memory row (decoded t) out ≡ readInto t out)
 unfolding read readInto
 reads-as t out row e = (ap (λ (r : ℕ). answer r (count t)) (sym e), ap (λ (r : ℕ). memory r (decoded t) out) (sym e))
-
-pub writes-as : (s out : List ℕ) (row : ℕ) → writeRow s (length out) ≡ row
-    → (answer row (textLength s) ≡ write s out) × (memory row (encoded s) out ≡ writeInto s out)
-unfolding write writeInto
-writes-as s out row e = (ap (λ (r : ℕ). answer r (textLength s)) (sym e), ap (λ (r : ℕ). memory r (encoded s) out) (sym e))
 
 -- a text that rows 12, 13 and 14 let pass
 pub record Accepted (t : List ℕ) : Type 0 where
@@ -57,19 +52,6 @@ module _ (t : List ℕ) (room : ℕ) where
   unfolding readRow
   row-none a h =
       rw (eq-eqb (length t % 4) 0 (a .whole), le-ltb 5464 (length t) (a .short), a .letters, eq-eqb (spare t) 0 (a .clean), le-ltb room (count t) h)
-
-module _ (s : List ℕ) (room : ℕ) where
-  pub row-size : 4096 < length s → writeRow s room ≡ 4
-  unfolding writeRow
-  row-size h = rw (lt-ltb 4096 (length s) h)
-
-  pub row-no-room : length s ≤ 4096 → room < textLength s → writeRow s room ≡ 11
-  unfolding writeRow
-  row-no-room l h = rw (le-ltb 4096 (length s) l, lt-ltb room (textLength s) h)
-
-  pub row-written : length s ≤ 4096 → textLength s ≤ room → writeRow s room ≡ 0
-  unfolding writeRow
-  row-written l h = rw (le-ltb 4096 (length s) l, le-ltb room (textLength s) h)
 
 -- a text that is not refused is accepted
 pub accepted : (t : List ℕ) (room : ℕ) → readRow t room ≡ 0 → Accepted t

@@ -1,9 +1,9 @@
-// Base64 (RFC 4648 section 4) both ways, between text and the bytes of a section.
+// From base64 text (RFC 4648 section 4) to the bytes of a section; the way back is passed on.
 mod decode;
-mod encode;
 
 ghost use mathlib.Core.Path.{_≡_};
-ghost use Rattle.text.specs.Text.{read, readInto, write, writeInto};
+ghost use Rattle.text.specs.Text.{read, readInto};
+pub use text_writing::to_text;
 use units::Refusal;
 use units::Written;
 
@@ -30,21 +30,5 @@ pub fn to_section(text: &[u8], out: &mut [u8]) -> Written
         return Written::Refused(Refusal::Room);
     }
     decode::put(text, out, count);
-    Written::Count(count)
-}
-
-// The text of the bytes of a section, written to the front of out.
-pub fn to_text(section: &[u8], out: &mut [u8]) -> Written
-    ensures { λ r. ⌜ (r ≡ write (now (section .entry)) (now (out .entry))) × (now (out .exit) ≡ writeInto (now (section .entry)) (now (out .entry))) ⌝ }
-{
-    let n = section.len();
-    if 4096 < n {
-        return Written::Refused(Refusal::Size);
-    }
-    let count = (n + 2) / 3 * 4;
-    if out.len() < count {
-        return Written::Refused(Refusal::Room);
-    }
-    encode::put(section, out);
     Written::Count(count)
 }

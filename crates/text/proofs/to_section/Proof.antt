@@ -12,7 +12,7 @@ use Rattle.bits.specs.Bits.{bytesOf}
 use Rattle.units.specs.Answers.{memory}
 use Rattle.units.specs.declared.refusals.Written.the-variants.{Count}
 use Rattle.text.specs.Text.{before, textBit, count, decoded, allOf}
-use Rattle.text.proofs.Padding.{padding-fits}
+use Rattle.base64.proofs.Padding.{padding-fits}
 use Rattle.text.proofs.Rows.{Accepted, reads-as, row-uneven, row-long, row-letter, row-spare, row-room, row-none}
 use Rattle.text.proofs.to_section.Statement.{statement}
 use Rattle.text.proofs.to_section.Tie as tie

@@ -6,7 +6,7 @@ use native.Mathlib.Omega.{arith}
 use lib.ListN.{getD}
 use borrow.Author.Count.{below-none, below-more}
 use Rattle.text.specs.Text.{sextet}
-use Rattle.text.proofs.AllOf.{all-each, all-not}
+use Rattle.base64.proofs.AllOf.{all-each, all-not}
 use Rattle.text.proofs.decode.all_of.Statement.{statement}
 use Rattle.text.proofs.decode.all_of.Tie as tie
 

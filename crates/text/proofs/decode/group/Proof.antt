@@ -2,7 +2,7 @@
 -- Assumes nothing.
 use borrow.Author.Needs.{needs}
 use native.Mathlib.Omega.{arith}
-use Rattle.text.proofs.TextBits.{text-group}
+use Rattle.base64.proofs.TextBits.{text-group}
 use Rattle.text.proofs.decode.group.Statement.{statement}
 use Rattle.text.proofs.decode.group.Tie as tie
 

@@ -3,7 +3,7 @@
 use borrow.Author.Needs.{needs}
 use mathlib.Core.Path.{sym}
 use native.Mathlib.Omega.{arith}
-use Rattle.text.proofs.Padding.{padding-empty, padding-none, padding-one, padding-two}
+use Rattle.base64.proofs.Padding.{padding-empty, padding-none, padding-one, padding-two}
 use Rattle.text.proofs.decode.padding.Statement.{statement}
 use Rattle.text.proofs.decode.padding.Tie as tie
 

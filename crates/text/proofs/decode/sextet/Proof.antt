@@ -4,7 +4,7 @@ use borrow.Author.Needs.{needs}
 use mathlib.Core.Path.{sym, ap, _∙_}
 use native.Mathlib.Omega.{arith}
 use Rattle.text.specs.Text.{sextet}
-use Rattle.text.proofs.Alphabet.{upper, lower, digit, plus, slash, outside}
+use Rattle.base64.proofs.Alphabet.{upper, lower, digit, plus, slash, outside}
 use Rattle.text.proofs.decode.sextet.Statement.{statement}
 use Rattle.text.proofs.decode.sextet.Tie as tie
 

@@ -4,8 +4,8 @@ use borrow.Author.Needs.{needs}
 use native.Mathlib.Omega.{arith}
 use mathlib.Core.Path.{sym}
 use Rattle.text.specs.Text.{before}
-use Rattle.text.proofs.Padding.{padding-le, padding-fits}
-use Rattle.text.proofs.Spare.{spare-end, spare-none}
+use Rattle.base64.proofs.Padding.{padding-le, padding-fits}
+use Rattle.base64.proofs.Spare.{spare-end, spare-none}
 use Rattle.text.proofs.decode.spare.Statement.{statement}
 use Rattle.text.proofs.decode.spare.Tie as tie
 

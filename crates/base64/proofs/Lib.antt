@@ -1,0 +1,9 @@
+pub mod AllOf
+pub mod Alphabet
+pub mod Counts
+pub mod Decoded
+pub mod Encoded
+pub mod Fill
+pub mod Padding
+pub mod Spare
+pub mod TextBits
