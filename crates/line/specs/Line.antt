@@ -5,7 +5,6 @@ use Prim.Native.Nat.{ℕ, zero, suc, _+_, _/_, _%_}
 use mathlib.Core.Bool.{cond}
 use mathlib.Core.List.{List, [], _∷_, _++_}
 use lib.ListN.{length}
-use lib.Seq.{sets}
 use lib.Dec.{ltb}
 use Rattle.units.specs.declared.refusals.Written.{Written}
 use Rattle.units.specs.Refusals.{numberOf, named}
@@ -77,8 +76,3 @@ spellAnswer line out = answer (spellRow line out) (length (spelled line))
 -- what the lent memory then holds
 unfoldable pub spellInto : Line → List ℕ → List ℕ
 spellInto line out = memory (spellRow line out) (spelled line) out
-
--- these characters, put into a list from a place on; the place after them, and the list
-pub record Puts (m : List ℕ) (at : ℕ) (characters : List ℕ) (end : ℕ) (l : List ℕ) : Type 0 where
-  pub place : end ≡ at + length characters
-  pub list : l ≡ sets m at characters

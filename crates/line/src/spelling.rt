@@ -3,13 +3,14 @@ ghost use mathlib.Core.Path.{_≡_};
 ghost use Prim.Native.Nat.{_+_, _≤_, _<_, _^_};
 ghost use lib.ListN.{length, drop};
 ghost use mathlib.Core.List.{_++_, _∷_, []};
-ghost use Rattle.line.specs.Line.{digits, numbered, lettered, spelled, Puts};
+ghost use Rattle.line.specs.Line.{digits, numbered, lettered, spelled};
+ghost use Rattle.units.specs.Put.{Put};
 use crate::Line;
 
 // The line at the front of the characters, and how long it is.
 pub(crate) fn put(line: Line, characters: &mut [u8]) -> usize
     requires { ⌜ 23 ≤ length (now characters) ⌝ }
-    ensures { λ r. ⌜ Puts (now (characters .entry)) 0 (spelled line) r (now (characters .exit)) ⌝ }
+    ensures { λ r. ⌜ Put (now (characters .entry)) 0 (spelled line) r (now (characters .exit)) ⌝ }
 {
     match line {
         Line::Measured(millis) => number(b'A', millis.0, characters),
@@ -22,7 +23,7 @@ pub(crate) fn put(line: Line, characters: &mut [u8]) -> usize
 
 fn letter(letter: u8, characters: &mut [u8]) -> usize
     requires { ⌜ 23 ≤ length (now characters) ⌝ }
-    ensures { λ r. ⌜ Puts (now (characters .entry)) 0 (lettered letter) r (now (characters .exit)) ⌝ }
+    ensures { λ r. ⌜ Put (now (characters .entry)) 0 (lettered letter) r (now (characters .exit)) ⌝ }
 {
     characters[0] = letter;
     characters[1] = b'\n';
@@ -31,7 +32,7 @@ fn letter(letter: u8, characters: &mut [u8]) -> usize
 
 fn number(letter: u8, n: u64, characters: &mut [u8]) -> usize
     requires { ⌜ 23 ≤ length (now characters) ⌝ }
-    ensures { λ r. ⌜ Puts (now (characters .entry)) 0 (numbered letter n) r (now (characters .exit)) ⌝ }
+    ensures { λ r. ⌜ Put (now (characters .entry)) 0 (numbered letter n) r (now (characters .exit)) ⌝ }
 {
     characters[0] = letter;
     characters[1] = b' ';
@@ -43,7 +44,7 @@ fn number(letter: u8, n: u64, characters: &mut [u8]) -> usize
 // The digits of n from a place on, and the place after them.
 fn decimal(n: u64, characters: &mut [u8], at: usize) -> usize
     requires { ⌜ at + 20 ≤ length (now characters) ⌝ }
-    ensures { λ r. ⌜ Puts (now (characters .entry)) at (digits 20 n) r (now (characters .exit)) ⌝ }
+    ensures { λ r. ⌜ Put (now (characters .entry)) at (digits 20 n) r (now (characters .exit)) ⌝ }
 {
     let count = places(n);
     let mut rest = n;

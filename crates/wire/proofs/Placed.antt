@@ -1,6 +1,6 @@
--- Numbers put into a list from a place on: where there is room for them and where there is none; one part after another, the room
--- that is left, and what then stands in front.
+-- Numbers put into a list from a place on: where there is room for them and where there is none; and, passed on, the laws of what was put.
 -- Assumes nothing.
+pub use Rattle.units.proofs.Put.{told, both, as-long, room, front, front-inside, front-count}
 use mathlib.Core.Path.{_≡_, sym, ap, ap₂, _∙_, subst}
 use mathlib.Core.Bool.{Bool, true, false, cond}
 use mathlib.Core.List.{List, [], _∷_, _++_}
@@ -31,46 +31,3 @@ pub stands : {m : List ℕ} {i : ℕ} {ns : List ℕ} {j : ℕ} {l : List ℕ} �
 stands {m} {i} {ns} h q =
     let there = put-there m i ns h in
     record { place = q .0 ∙ sym (there .0); list = q .1 ∙ sym (there .1) }
-
--- ---- parts
-
--- the numbers of the case that it is
-pub told : {m : List ℕ} {i : ℕ} {ns us : List ℕ} {j : ℕ} {l : List ℕ} → ns ≡ us → Put m i ns j l → Put m i us j l
-told {m} {i} {j = j} {l = l} e p = subst (λ (ns : List ℕ). Put m i ns j l) e p
-
-sets-append : (m : List ℕ) (i : ℕ) (u v : List ℕ) → sets m i (u ++ v) ≡ sets (sets m i u) (i + length u) v
-sets-append m i [] v = ap (λ (k : ℕ). sets m k v) (sym (add-zero i))
-sets-append m i (n ∷ u) v =
-    let place : suc i + length u ≡ i + suc (length u) = omega arith in
-    sets-append (set m i n) (suc i) u v ∙ ap (λ (k : ℕ). sets (sets (set m i n) (suc i) u) k v) place
-
--- a part, and then another
-pub both : {m : List ℕ} {i : ℕ} {u : List ℕ} {j : ℕ} {l v : List ℕ} {k : ℕ} {r : List ℕ} → Put m i u j l → Put l j v k r → Put m i (u ++ v) k r
-both {m} {i} {u} {j} {l} {v} {k} {r} p q =
-    record {
-      place = omega (arith, length-append u v);
-      list = q .list ∙ ap₂ (λ (l : List ℕ) (j : ℕ). sets l j v) (p .list) (p .place) ∙ sym (sets-append m i u v);
-    }
-
--- a list stays as long as it was
-pub as-long : {m : List ℕ} {i : ℕ} {ns : List ℕ} {j : ℕ} {l : List ℕ} → Put m i ns j l → length l ≡ length m
-as-long {m} {i} {ns} p = ap length (p .list) ∙ length-sets m i ns
-
--- where a part has at most n numbers, there is room for k more after it
-pub room : {m : List ℕ} {i : ℕ} {ns : List ℕ} {j : ℕ} {l : List ℕ} (n k : ℕ) → Put m i ns j l → length ns ≤ n → i + (n + k) ≤ length m
-    → j + k ≤ length l
-room n k p short h = omega (arith, as-long p)
-
--- ---- what then stands in front
-
-module _ {m : List ℕ} {ns : List ℕ} {n : ℕ} {l : List ℕ} (p : Put m 0 ns n l) (h : length ns ≤ length m) where
-  pub front : take n l ≡ ns
-  front =
-      let all : 0 + length ns ≡ length ns = omega arith in
-      ap₂ take (p .place ∙ all) (p .list ∙ sets-eq ns m 0 (omega arith)) ∙ take-append-seam ns (drop (0 + length ns) m)
-
-  pub front-inside : n ≤ length l
-  front-inside = omega (arith, p .place, as-long p)
-
-  pub front-count : n ≡ length (take n l)
-  front-count = sym (length-take-le n l front-inside)

@@ -1,6 +1,6 @@
 -- Numbers put into a list from a place on.
 -- Assumes nothing.
-use mathlib.Core.Path.{_≡_}
+pub use Rattle.units.specs.Put.{Put}
 use Prim.Native.Nat.{ℕ, _+_}
 use mathlib.Core.Bool.{Bool, cond}
 use mathlib.Core.List.{List}
@@ -19,8 +19,3 @@ putPlace list i ns = cond (fits list i ns) (i + length ns) i
 -- the list with the numbers from place i on, or as it was where they do not fit
 unfoldable pub putInto : List ℕ → ℕ → List ℕ → List ℕ
 putInto list i ns = cond (fits list i ns) (sets list i ns) list
-
--- the numbers stand in the list from place i on, and j is the place after them
-pub record Put (before : List ℕ) (i : ℕ) (ns : List ℕ) (j : ℕ) (now : List ℕ) : Type 0 where
-  pub place : j ≡ i + length ns
-  pub list : now ≡ sets before i ns

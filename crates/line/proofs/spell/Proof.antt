@@ -8,7 +8,8 @@ use native.Mathlib.Omega.{arith}
 use lib.ListN.{length, drop}
 use Rattle.units.specs.declared.refusals.Written.the-variants.{Count}
 use Rattle.line.specs.Line.{spelled}
-use Rattle.line.proofs.Put.{all, front, front-inside, front-count, short, no-room, written}
+use Rattle.units.proofs.Put.{all, front, front-inside, front-count}
+use Rattle.line.proofs.Spelled.{short, no-room, written}
 use Rattle.line.proofs.spell.Statement.{statement}
 use Rattle.line.proofs.spell.Tie as tie
 

@@ -6,7 +6,7 @@ use native.Mathlib.Omega.{arith}
 use Prim.Native.Nat.{_<_}
 use lib.ListN.{length, set, length-set}
 use Rattle.line.proofs.Digits.{few}
-use Rattle.line.proofs.Put.{one-more, after-two, as-long}
+use Rattle.units.proofs.Put.{one-more, after-two, as-long}
 use Rattle.line.proofs.spelling.number.Statement.{statement}
 use Rattle.line.proofs.spelling.number.Tie as tie
 

@@ -3,7 +3,7 @@
 use borrow.Author.Needs.{needs}
 use mathlib.Core.Path.{sym, ap, _∙_}
 use Rattle.line.specs.Line.{numbered, spelled}
-use Rattle.line.proofs.Put.{told}
+use Rattle.units.proofs.Put.{told}
 use Rattle.line.proofs.spelling.put.Statement.{statement}
 use Rattle.line.proofs.spelling.put.Tie as tie
 
