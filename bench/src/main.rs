@@ -58,13 +58,14 @@ fn run(root: &Path, programs: &Programs) -> Result<(), String> {
     let day = Day::new(root);
     let (cues, kinds, lengths) = (day.cues(), samples::kinds(), samples::lengths());
     let all = every(&cues, &kinds, &lengths);
+    let files = whole::compare(programs, &day)?;
     let compared = agree::check(&jobs, &all)?;
     eprintln!("bench: the three programs give the same {compared} answers");
     println!("The three programs gave the same {compared} answers before anything was timed.");
 
     tables::day(&jobs, &cues, &day.says());
     sections(&jobs, &kinds, &lengths);
-    let whole = whole::time(programs, &day)?;
+    let whole = whole::time(programs, files)?;
     tables::whole(&whole);
     tables::stack(&stack::calls(&jobs, &all[all.len() - STACK_CUES..]));
     tables::pages(stack::pages(&programs.tally, &whole.file)?);

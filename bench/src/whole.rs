@@ -37,8 +37,14 @@ pub struct Whole {
     pub second: Timed,
 }
 
-/// Compares the programs' answers, and then times them.
-pub fn time(programs: &Programs, day: &Day) -> Result<Whole, String> {
+/// The files of lines.
+pub struct Files {
+    all: PathBuf,
+    fewer: PathBuf,
+}
+
+/// Makes the files, and compares the programs' answers to them.
+pub fn compare(programs: &Programs, day: &Day) -> Result<Files, String> {
     let all = written(programs, day, "lines.txt", LINES)?;
     let fewer = written(programs, day, "fewer-lines.txt", FEWER_LINES)?;
     if programs.tally().answers(&fewer)? != programs.second().answers(&fewer)? {
@@ -47,11 +53,15 @@ pub fn time(programs: &Programs, day: &Day) -> Result<Whole, String> {
     if programs.tally().answers(&all)? != programs.yardstick().answers(&all)? {
         return Err("the tally and the yardstick answer a file differently".to_string());
     }
+    Ok(Files { all, fewer })
+}
+
+pub fn time(programs: &Programs, files: Files) -> Result<Whole, String> {
     let mut times = [Vec::new(), Vec::new(), Vec::new()];
     for _ in 0..RUNS {
-        times[0].push(programs.tally().took(&all)? / LINES as f64);
-        times[1].push(programs.yardstick().took(&all)? / LINES as f64);
-        times[2].push(programs.second().took(&fewer)? / FEWER_LINES as f64);
+        times[0].push(programs.tally().took(&files.all)? / LINES as f64);
+        times[1].push(programs.yardstick().took(&files.all)? / LINES as f64);
+        times[2].push(programs.second().took(&files.fewer)? / FEWER_LINES as f64);
     }
     let [tally, yardstick, second] = times.map(|times| Timed {
         median: median(&times),
@@ -59,11 +69,11 @@ pub fn time(programs: &Programs, day: &Day) -> Result<Whole, String> {
     });
     Ok(Whole {
         lines: LINES,
-        bytes: fs::metadata(&all).map_err(failed)?.len() as usize,
+        bytes: fs::metadata(&files.all).map_err(failed)?.len() as usize,
         tally,
         yardstick,
         second,
-        file: all,
+        file: files.all,
     })
 }
 
