@@ -49,9 +49,7 @@ fn functions_of_the_comparison_and_the_benchmark() {
     let compared = source::files("second/tests/proved", "rs");
     let measured = source::files("bench/src", "rs");
     for file in compared.iter().chain(&measured) {
-        let mut declared = source::of_rust(&read(file));
-        declared.retain(|name, _| name.starts_with("timpanimist_"));
-        for (name, function) in declared {
+        for (name, function) in source::of_rust(&read(file)) {
             let exported = exported.get(&name).map(kinds);
             assert_eq!(
                 Some(kinds(&function)),

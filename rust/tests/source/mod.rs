@@ -85,7 +85,7 @@ pub fn exports() -> Functions {
     found
 }
 
-/// The functions that a Rust file declares in its `extern "C"` blocks.
+/// The functions of the archive that a Rust file declares in its `extern "C"` blocks.
 pub fn of_rust(text: &str) -> Functions {
     let blocks = text
         .split("extern \"C\" {")
@@ -93,6 +93,7 @@ pub fn of_rust(text: &str) -> Functions {
         .map(|block| block.split("\n}").next().unwrap_or(""));
     let declared = blocks.flat_map(|block| block.split("fn ").skip(1));
     declared
+        .filter(|text| text.starts_with("timpanimist_"))
         .map(|text| function(text, |name, kind| vec![(name, kind)]))
         .collect()
 }
