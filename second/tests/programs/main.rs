@@ -18,6 +18,8 @@ mod programs;
 #[allow(dead_code)]
 #[path = "../support/random.rs"]
 mod random;
+#[path = "../support/same_lines.rs"]
+mod same_lines;
 #[allow(dead_code)]
 #[path = "../support/texts.rs"]
 mod texts;
@@ -36,20 +38,4 @@ fn written(output: Output) -> Vec<u8> {
     assert_eq!(told, "", "this stands on standard error");
     assert!(output.status.success(), "{}", output.status);
     output.stdout
-}
-
-/// Both wrote the same lines.
-fn same(name: &str, second: &[u8], proved: &[u8]) {
-    let second: Vec<&[u8]> = second.split_inclusive(|byte| *byte == b'\n').collect();
-    let proved: Vec<&[u8]> = proved.split_inclusive(|byte| *byte == b'\n').collect();
-    let differs = second.iter().zip(&proved).position(|(a, b)| a != b);
-    if let Some(at) = differs {
-        let (second, proved) = (second[at].escape_ascii(), proved[at].escape_ascii());
-        let line = at + 1;
-        panic!(
-            "{name}, line {line}: second {second}, proved {proved}, seed {:#018x}",
-            seed()
-        );
-    }
-    assert_eq!(second.len(), proved.len(), "{name}: the count of answers");
 }

@@ -1,8 +1,9 @@
 //! Input that comes through a pipe in pieces, and answers that are wanted before the input ends.
 
 use super::programs::{ended, fed, proved, second};
+use super::same_lines::same_lines;
 use super::texts::{cut_at_random, input_of};
-use super::{random, same, written};
+use super::{random, written};
 use second::day;
 use second::lines::answers;
 use std::io::{BufRead, BufReader, Write};
@@ -33,7 +34,7 @@ fn pieces_with_pauses() {
     };
     let by_proved = written(in_pieces(program, &parts, pause));
     let by_second = written(in_pieces(second(), &parts, pause));
-    same("pieces with pauses", &by_second, &by_proved);
+    same_lines("pieces with pauses", &input, &by_second, &by_proved);
     assert_eq!(by_second, answers(&input).into_bytes());
 }
 

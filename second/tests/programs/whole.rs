@@ -2,7 +2,8 @@
 
 use super::files::files;
 use super::programs::{proved, run, second};
-use super::{random, same, written};
+use super::same_lines::same_lines;
+use super::{random, written};
 use second::lines::answers;
 use std::fs::File;
 
@@ -14,7 +15,7 @@ fn every_file() {
         };
         let by_proved = written(run(program, &file.input));
         let by_second = written(run(second(), &file.input));
-        same(file.name, &by_second, &by_proved);
+        same_lines(file.name, &file.input, &by_second, &by_proved);
         println!(
             "{:9} bytes, {:6} answers: {}",
             file.input.len(),

@@ -5,6 +5,7 @@ use super::counts::Counts;
 use super::lent::Lent;
 use super::report::{same_answer, same_memory, CountAnswer};
 use super::rooms::{in_room, rooms};
+use super::same_lines::same_lines;
 use super::stream::{self, LONGEST_ANSWER, LONGEST_LINE};
 use super::{Bench, Random};
 use crate::proved::lines as proved;
@@ -166,8 +167,9 @@ impl Bench {
             let _ = self.last_line_in(held, &mut carry, room);
         }
         written.extend(last.expect("the carry is long enough"));
-        let expected = answers(&parts.concat());
-        assert_eq!(String::from_utf8_lossy(&written), expected, "{parts:?}");
+        let input = parts.concat();
+        let expected = answers(&input);
+        same_lines("stream", &input, expected.as_bytes(), &written);
         self.asked.streams += 1;
         self.asked.lines += expected.lines().count() as u64;
     }

@@ -18,6 +18,7 @@ mod readings;
 mod report;
 mod rooms;
 pub mod round;
+mod same_lines;
 mod sheets;
 pub mod stream;
 mod tally;

@@ -3,6 +3,7 @@
 use super::lines::{Asked, Carry};
 use super::programs::{proved, run, second};
 use super::random::start_round;
+use super::same_lines::same_lines;
 use super::texts::{
     any_line, any_room, cut_at_random, cut_by_bits, damaged_text, good_text, input_of, long_line,
     text_of_damaged_section, REPLACEMENTS,
@@ -154,6 +155,6 @@ fn through_both_programs(input: &[u8]) -> bool {
     for output in [&by_proved, &by_second] {
         assert!(output.status.success() && output.stderr.is_empty());
     }
-    assert!(by_proved.stdout == by_second.stdout, "the programs differ");
+    same_lines("tally", input, &by_second.stdout, &by_proved.stdout);
     true
 }
