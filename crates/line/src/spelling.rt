@@ -1,8 +1,8 @@
 // The characters of an answer line.
 ghost use mathlib.Core.Path.{_≡_};
-ghost use Prim.Native.Nat.{_+_, _≤_, _<_, _^_};
+ghost use Prim.Native.Nat.{_+_, _≤_};
 ghost use lib.ListN.{length, drop};
-ghost use mathlib.Core.List.{_++_, _∷_, []};
+ghost use mathlib.Core.List.{_++_};
 ghost use Rattle.line.specs.Line.{digits, numbered, lettered, spelled};
 ghost use Rattle.units.specs.Put.{Put};
 use crate::Line;

@@ -1,6 +1,6 @@
 // The tally: one text per line from standard input, one answer line each to standard output. Everything that matters is in
 // `lines`; this is the loop that reads and writes.
-ghost use Prim.Native.Nat.{_≤_, _<_};
+ghost use Prim.Native.Nat.{_≤_};
 ghost use lib.ListN.{length};
 use libc::STDIN_FILENO;
 use libc::STDOUT_FILENO;
