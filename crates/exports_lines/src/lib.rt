@@ -1,7 +1,8 @@
 // Answer lines for programs in other languages. A slice passes as a pointer and then a length. The answer is the count of bytes
 // or numbers written, or 2^63 plus the refusal's number.
 ghost use mathlib.Core.Path.{_≡_};
-ghost use Rattle.line.specs.Line.{lineAnswer, spellAnswer, spellInto};
+ghost use Rattle.line.specs.Line.{lineAnswer};
+ghost use Rattle.spelling.specs.Spelling.{spellAnswer, spellInto};
 ghost use Rattle.lines.specs.Turns.{turnAnswer, turnCarry, turnOut, lastAnswer, lastOut};
 ghost use Rattle.wire.specs.Wire.{wire};
 ghost use Rattle.wire.specs.Given.{given, givenInto};

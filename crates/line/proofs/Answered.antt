@@ -16,7 +16,7 @@ use Rattle.house.specs.House.{breakAnswer}
 use Rattle.text.specs.Text.{readRow, read, readInto, count, decoded}
 use Rattle.base64.proofs.Decoded.{length-decoded}
 use Rattle.text.proofs.Rows.{row-long, row-room, accepted}
-use Rattle.line.specs.declared.Line.{Line}
+use Rattle.spelling.specs.declared.Line.{Line}
 use Rattle.line.specs.Line.{inMillis, answerBy, answerIn, lineAnswer}
 
 module _ (t out : List ℕ) where

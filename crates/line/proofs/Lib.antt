@@ -1,4 +1,1 @@
 pub mod Answered
-pub mod Digits
-pub mod Spelled
-pub mod Value

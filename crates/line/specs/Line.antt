@@ -1,20 +1,14 @@
--- What the tally says of a text, and how the line is spelled.
+-- What the tally says of a text.
 -- Assumes nothing.
-use Prim.Native.Nat.{ℕ, zero, suc, _+_, _/_, _%_}
-use mathlib.Core.Bool.{cond}
-use mathlib.Core.List.{List, [], _∷_, _++_}
-use lib.ListN.{length}
-use lib.Dec.{ltb}
+use Prim.Native.Nat.{ℕ, zero, suc}
+use mathlib.Core.List.{List}
 use Rattle.units.specs.declared.refusals.Written.{Written}
-use Rattle.units.specs.Refusals.{numberOf, named}
-use Rattle.units.specs.Answers.{answer, memory}
+use Rattle.units.specs.Refusals.{named}
 use Rattle.units.specs.Clock.{millisOf}
 use Rattle.text.specs.Text.{readRow, decoded}
 use Rattle.house.specs.declared.answers.Break.{Break}
 use Rattle.house.specs.House.{breakAnswer}
-use Rattle.line.specs.declared.Line.{Line}
-
--- ---- the answer
+use Rattle.spelling.specs.declared.Line.{Line}
 
 -- a break, measured in milliseconds
 abbrev pub inMillis : Break → Line
@@ -41,37 +35,3 @@ lineAnswer t = answerIn t 4098
 abbrev pub refusedText : Written → Line
 refusedText (Written.Count n) = Line.None
 refusedText (Written.Refused r) = Line.Refused r
-
--- ---- its characters
-
--- the decimal digits of n, without zeros in front: so many at most
-unfoldable pub digits : ℕ → ℕ → List ℕ
-digits zero n = []
-digits (suc k) n = cond (ltb n 10) ((n + 48) ∷ []) (digits k (n / 10) ++ ((n % 10 + 48) ∷ []))
-
--- a letter and a newline; a letter, a blank, a number of at most twenty digits and a newline
-abbrev pub lettered : ℕ → List ℕ
-lettered letter = letter ∷ 10 ∷ []
-
-abbrev pub numbered : ℕ → ℕ → List ℕ
-numbered letter n = letter ∷ 32 ∷ digits 20 n ++ (10 ∷ [])
-
--- `A m`, `B`, `N`, `X` and `R n`
-abbrev pub spelled : Line → List ℕ
-spelled (Line.Measured m) = numbered 65 (m .0)
-spelled Line.Unmeasured = lettered 66
-spelled Line.None = lettered 78
-spelled Line.Unread = lettered 88
-spelled (Line.Refused r) = numbered 82 (numberOf r)
-
--- ROOM where the memory is shorter than the line
-unfoldable pub spellRow : Line → List ℕ → ℕ
-spellRow line out = cond (ltb (length out) (length (spelled line))) 11 0
-
--- what spelling the line answers
-unfoldable pub spellAnswer : Line → List ℕ → Written
-spellAnswer line out = answer (spellRow line out) (length (spelled line))
-
--- what the lent memory then holds
-unfoldable pub spellInto : Line → List ℕ → List ℕ
-spellInto line out = memory (spellRow line out) (spelled line) out

@@ -1,29 +1,13 @@
-// The answer line of a text: what the tally says of one cue, and how it is spelled.
-mod spelling;
-
+// The answer line of a text: what the tally says of one cue.
 ghost use mathlib.Core.Path.{_≡_};
 ghost use lib.ListN.{length};
 ghost use Rattle.text.specs.Text.{readInto};
-ghost use Rattle.line.specs.Line.{answerIn, inMillis, refusedText, spellAnswer, spellInto};
+ghost use Rattle.line.specs.Line.{answerIn, inMillis, refusedText};
 ghost use Rattle.line.specs.Line as says;
 use house::Break;
-use units::Millis;
-use units::Refusal;
+pub use spelling::Line;
+pub use spelling::spell;
 use units::Written;
-
-// What a line says of its text.
-pub enum Line {
-    // `A m`: a break that lasts so long.
-    Measured(Millis),
-    // `B`: a break whose cue says no duration.
-    Unmeasured,
-    // `N`: no break.
-    None,
-    // `X`: sealed, or a command of a type that the standard does not have.
-    Unread,
-    // `R n`: not a text, or not the text of a section.
-    Refused(Refusal),
-}
 
 // The answer to a text.
 pub fn answer(text: &[u8]) -> Line
@@ -65,18 +49,4 @@ fn in_millis(answer: Break) -> Line
         Break::Unread => Line::Unread,
         Break::Refused(refusal) => Line::Refused(refusal),
     }
-}
-
-// The line as characters, its newline among them, written to the front of out.
-pub fn spell(line: Line, out: &mut [u8]) -> Written
-    ensures { λ r. ⌜ (r ≡ spellAnswer line (now (out .entry))) × (now (out .exit) ≡ spellInto line (now (out .entry))) ⌝ }
-{
-    // the longest line: a letter, a blank, twenty digits and a newline
-    let mut characters = [0u8; 23];
-    let n = spelling::put(line, &mut characters);
-    if out.len() < n {
-        return Written::Refused(Refusal::Room);
-    }
-    spelling::copy(&characters[..n], out);
-    Written::Count(n)
 }

@@ -15,8 +15,9 @@ use Rattle.bits.proofs.Cases.{le-or-lt}
 use Rattle.units.specs.declared.refusals.Refusal.the-variants.{TextLen, Room}
 use Rattle.units.specs.declared.refusals.Written.the-variants.{Count, Refused}
 use Rattle.units.specs.Answers.{answer, memory}
-use Rattle.line.specs.declared.Line.{Line}
-use Rattle.line.specs.Line.{answerIn, lineAnswer, spelled, spellRow, spellAnswer, spellInto}
+use Rattle.spelling.specs.declared.Line.{Line}
+use Rattle.line.specs.Line.{answerIn, lineAnswer}
+use Rattle.spelling.specs.Spelling.{spelled, spellRow, spellAnswer, spellInto}
 use Rattle.line.proofs.Answered.{too-long}
 use Rattle.lines.specs.declared.answers.Held.{Held}
 use Rattle.lines.specs.Turns.{heldWith, carryWith, heldAnswer, ended, carryEnded, lastSaid, lastRow, lastAnswer, lastOut}

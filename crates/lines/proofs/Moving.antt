@@ -10,8 +10,8 @@ use lib.Dec.{eqb, ltb}
 use borrow.Author.Tests.{ltb-true, ltb-false}
 use Rattle.units.specs.declared.refusals.Written.the-variants.{Count}
 use Rattle.units.specs.Answers.{answer}
-use Rattle.line.specs.Line.{spelled}
-use Rattle.line.proofs.Spelled.{short}
+use Rattle.spelling.specs.Spelling.{spelled}
+use Rattle.spelling.proofs.Spelled.{short}
 use Rattle.lines.specs.declared.answers.Held.{Held}
 use Rattle.lines.specs.declared.answers.Turn.{Turn}
 use Rattle.lines.specs.Turns.{ended, carryEnded, Turned, full, after, turned, turnRow, moved, turnAnswer, lastSaid, lastRow, lastAnswer}

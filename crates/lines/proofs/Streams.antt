@@ -11,8 +11,9 @@ use lib.Seq.{length-take-le, take-at, take-length, take-append-add}
 use lib.Dec.{eqb, ltb}
 use borrow.Author.Tests.{eqb-true, ne-eqb}
 use Rattle.bits.proofs.Cases.{le-or-lt}
-use Rattle.line.specs.declared.Line.{Line}
-use Rattle.line.specs.Line.{lineAnswer, spelled}
+use Rattle.spelling.specs.declared.Line.{Line}
+use Rattle.line.specs.Line.{lineAnswer}
+use Rattle.spelling.specs.Spelling.{spelled}
 use Rattle.line.proofs.Answered.{too-long}
 use Rattle.lines.specs.declared.answers.Held.{Held}
 use Rattle.lines.specs.Stream.{cut, said, tally, Handed}

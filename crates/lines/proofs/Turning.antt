@@ -13,10 +13,10 @@ use lib.Dec.{eqb, ltb}
 use borrow.Author.Tests.{lt-ltb, le-ltb, eq-eqb, ne-eqb}
 use borrow.Rule.Slice.PartMut.{putMid}
 use Rattle.bits.proofs.Cases.{le-or-lt}
-use Rattle.line.specs.declared.Line.{Line}
+use Rattle.spelling.specs.declared.Line.{Line}
 use Rattle.units.specs.declared.refusals.Refusal.the-variants.{Room}
 use Rattle.units.specs.Answers.{memory}
-use Rattle.line.specs.Line.{spelled}
+use Rattle.spelling.specs.Spelling.{spelled}
 use Rattle.lines.specs.declared.answers.Held.{Held}
 use Rattle.lines.specs.declared.answers.Turn.{Turn}
 use Rattle.lines.specs.Turns.{heldWith, carryWith, ended, carryEnded, Turned, kept, full, after, turned, lineLength, turnRow, moved, unless, turnAnswer, turnCarry, turnOut}

@@ -5,7 +5,8 @@ use mathlib.Core.Bool.{cond}
 use mathlib.Core.List.{List, [], _∷_, _++_}
 use lib.ListN.{length, take}
 use lib.Dec.{eqb}
-use Rattle.line.specs.Line.{lineAnswer, spelled}
+use Rattle.line.specs.Line.{lineAnswer}
+use Rattle.spelling.specs.Spelling.{spelled}
 use Rattle.lines.specs.declared.answers.Held.{Held}
 use Rattle.lines.specs.Turns.{turned}
 

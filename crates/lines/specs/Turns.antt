@@ -8,8 +8,9 @@ use lib.Dec.{eqb, leb, ltb}
 use Rattle.units.specs.declared.refusals.Refusal.the-variants.{TextLen, Room}
 use Rattle.units.specs.declared.refusals.Written.{Written}
 use Rattle.units.specs.Answers.{answer, memory}
-use Rattle.line.specs.declared.Line.{Line}
-use Rattle.line.specs.Line.{lineAnswer, spelled}
+use Rattle.spelling.specs.declared.Line.{Line}
+use Rattle.line.specs.Line.{lineAnswer}
+use Rattle.spelling.specs.Spelling.{spelled}
 use Rattle.lines.specs.declared.answers.Held.{Held}
 use Rattle.lines.specs.declared.answers.Turn.{Turn}
 

@@ -1,8 +1,7 @@
 // The carry buffer, which has room for the longest text: the characters of a line that was cut.
 ghost use mathlib.Core.Path.{_≡_};
-ghost use Prim.Native.Nat.{_+_, _≤_};
-ghost use lib.ListN.{length, take, drop};
-ghost use mathlib.Core.List.{_++_};
+ghost use Prim.Native.Nat.{_≤_};
+ghost use lib.ListN.{length};
 ghost use Rattle.lines.specs.Turns.{heldWith, carryWith, carryEnded};
 ghost use Rattle.lines.specs.Turns as says;
 use crate::Held;
@@ -23,7 +22,7 @@ pub(crate) fn keep(held: Held, part: &[u8], carry: &mut [u8]) -> Held
     if 5464 - n < part.len() {
         return Held::TooLong;
     }
-    append(part, carry, n);
+    lent::put(part, carry, n);
     Held::Characters(n + part.len())
 }
 
@@ -52,14 +51,5 @@ fn joined(n: usize, part: &[u8], carry: &mut [u8], section: &mut [u8]) -> Line
     match keep(Held::Characters(n), part, carry) {
         Held::Characters(end) => line::answer_in(&carry[..end], section),
         Held::TooLong => Line::Refused(Refusal::TextLen),
-    }
-}
-
-fn append(part: &[u8], carry: &mut [u8], at: usize)
-    requires { ⌜ at + length (now part) ≤ length (now carry) ⌝ }
-    ensures { λ _. ⌜ now (carry .exit) ≡ take at (now (carry .entry)) ++ now (part .entry) ++ drop (at + length (now (part .entry))) (now (carry .entry)) ⌝ }
-{
-    for i in 0..part.len() {
-        carry[at + i] = part[i];
     }
 }

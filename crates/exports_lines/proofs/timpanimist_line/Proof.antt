@@ -2,8 +2,8 @@
 -- Assumes nothing.
 use borrow.Author.Needs.{needs}
 use mathlib.Core.Path.{ap, _∙_}
-use Rattle.line.specs.declared.Line.{Line}
-use Rattle.line.specs.Line.{spellAnswer, spellInto}
+use Rattle.spelling.specs.declared.Line.{Line}
+use Rattle.spelling.specs.Spelling.{spellAnswer, spellInto}
 use Rattle.wire.specs.Wire.{wire}
 use Rattle.exports_lines.proofs.timpanimist_line.Statement.{statement}
 use Rattle.exports_lines.proofs.timpanimist_line.Tie as tie

@@ -2,7 +2,7 @@
 -- Assumes nothing.
 use borrow.Author.Needs.{needs}
 use mathlib.Core.Path.{sym, ap, _∙_}
-use Rattle.line.specs.declared.Line.{Line}
+use Rattle.spelling.specs.declared.Line.{Line}
 use Rattle.line.specs.Line.{inMillis}
 use Rattle.line.proofs.in_millis.Statement.{statement}
 use Rattle.line.proofs.in_millis.Tie as tie

@@ -5,8 +5,8 @@ use mathlib.Core.Path.{sym, ap, _∙_}
 use native.Mathlib.Omega.{arith}
 use lib.Seq.{length-take-le}
 use Rattle.units.specs.declared.refusals.Refusal.the-variants.{TextLen}
-use Rattle.line.specs.declared.Line.{Line}
-use Rattle.line.specs.Line.{spelled}
+use Rattle.spelling.specs.declared.Line.{Line}
+use Rattle.spelling.specs.Spelling.{spelled}
 use Rattle.lines.specs.declared.answers.Held.{Held}
 use Rattle.lines.proofs.Holding.{last-refused, last-none, last-spelled, last-held, last-long, last-too-long}
 use Rattle.lines.proofs.last_line.Statement.{statement}

@@ -6,8 +6,8 @@ use mathlib.Core.List.{List, _++_}
 use Prim.Native.Nat.{ℕ, _+_, _-_, _≤_, _<_}
 use native.Mathlib.Omega.{arith}
 use lib.ListN.{length, take, drop, length-drop, take-append-drop}
-use Rattle.line.specs.Line.{spelled}
-use Rattle.line.proofs.Spelled.{spell-refused, spell-counted}
+use Rattle.spelling.specs.Spelling.{spelled}
+use Rattle.spelling.proofs.Spelled.{spell-refused, spell-counted}
 use Rattle.lines.specs.declared.answers.Held.{Held}
 use Rattle.lines.specs.declared.answers.Turn.{Turn}
 use Rattle.lines.specs.Turns.{heldWith, carryWith}

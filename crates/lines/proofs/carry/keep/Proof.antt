@@ -2,7 +2,11 @@
 -- Assumes nothing.
 use borrow.Author.Needs.{needs}
 use mathlib.Core.Path.{_∙_}
+use Prim.Native.Nat.{_+_}
 use native.Mathlib.Omega.{arith}
+use lib.ListN.{length}
+use borrow.Author.Tests.{le-leb}
+use Rattle.lent.proofs.Room.{put}
 use Rattle.lines.proofs.Holding.{fit, no-fit}
 use Rattle.lines.proofs.carry.keep.Statement.{statement}
 use Rattle.lines.proofs.carry.keep.Tie as tie
@@ -28,8 +32,8 @@ returns-3 c =
     let held = c .before .before .before .held .given in
     no-fit (a .held) (held .0 .0) (held .1) (a .carry .now) (a .part .now) (omega arith)
 
-append-requires : tie.Need-append-requires
-append-requires c κs = search needs
+put-requires : tie.Need-put-requires
+put-requires c κs = search needs
 
 add-t7 : tie.Need-add-t7
 add-t7 c = search needs
@@ -42,7 +46,8 @@ returns-4 c =
     let a = c .before .before .before .before .before .before .before .before .before .before .before .args in
     let held = c .before .before .before .before .before .before .before .held .given in
     let kept = fit (a .held) (held .0 .0) (held .1) (a .carry .now) (a .part .now) (omega arith) in
-    (kept .0, c .before .before .append .ensures ∙ kept .1)
+    let room = le-leb (held .0 .0 + length (a .part .now)) (length (a .carry .now)) (omega arith) in
+    (kept .0, c .before .before .put .ensures .1 ∙ put (a .part .now) (held .0 .0) (a .carry .now) room ∙ kept .1)
 
 pub keep-spec : {M : Type 1} → statement M
 keep-spec =
@@ -53,7 +58,7 @@ keep-spec =
     returns
     returns-2
     returns-3
-    append-requires
+    put-requires
     add-t7
     same-length
     returns-4)
