@@ -3,17 +3,19 @@
 use mathlib.Core.Path.{_≡_, refl, sym, ap, ap₂, _∙_}
 use mathlib.Core.Bool.{Bool, true, false, cond, not, _&&_}
 use mathlib.Core.List.{List, [], _++_}
-use Prim.Native.Nat.{ℕ, zero, suc, _≤_, _<_}
+use Prim.Native.Nat.{ℕ, zero, suc, _+_, _≤_, _<_}
 use native.Mathlib.Omega.{arith}
 use lib.ListN.{length, take, drop, replicate}
 use lib.Dec.{leb, ltb, eqb}
-use borrow.Author.Tests.{le-leb, leb-true, lt-ltb, le-ltb, eq-eqb, eqb-true}
+use borrow.Author.Tests.{le-leb, leb-true, leb-false, lt-ltb, le-ltb, eq-eqb, eqb-true}
 use Rattle.bits.proofs.Cases.{is-false, and-left, and-right}
 use Rattle.units.specs.declared.refusals.Refusal.{Refusal}
 use Rattle.units.specs.declared.refusals.Refusal.the-variants.{Room, Sheet}
 use Rattle.units.specs.declared.refusals.Written.{Written}
 use Rattle.units.specs.declared.refusals.Written.the-variants.{Count, Refused}
 use Rattle.units.specs.Answers.{answer, memory}
+use Rattle.lent.specs.Lent.{fits, putInto}
+use Rattle.lent.proofs.Room.{at-front, unchanged}
 use Rattle.section.specs.declared.Verdict.{Verdict}
 use Rattle.section.specs.declared.Verdict.the-variants.{Accepted}
 use Rattle.section.specs.Accept.{acceptRow, verdict, acceptOf}
@@ -96,8 +98,19 @@ module _ (x s out : List ℕ) where
   not-it e = judged 15 (ap (λ (t : Bool). cond (not t) 15 (cond (ltb (length out) (length s)) 11 0)) e)
 
   -- it is, with too little room and with enough
-  pub no-room-for : isSheetOf x s ≡ true → length out < length s → Judged x s out (Refused Room) out
+  no-room-for : isSheetOf x s ≡ true → length out < length s → Judged x s out (Refused Room) out
   no-room-for e h = judged 11 (ap₂ (λ (t u : Bool). cond (not t) 15 (cond u 11 0)) e (lt-ltb _ _ h))
 
-  pub section-written : isSheetOf x s ≡ true → length s ≤ length out → Judged x s out (Count (length s)) (s ++ drop (length s) out)
+  section-written : isSheetOf x s ≡ true → length s ≤ length out → Judged x s out (Count (length s)) (s ++ drop (length s) out)
   section-written e h = judged 0 (ap₂ (λ (t u : Bool). cond (not t) 15 (cond u 11 0)) e (le-ltb _ _ h))
+
+  -- by what `lent::put` says of the section's bytes
+  pub put-nowhere : isSheetOf x s ≡ true → (p : List ℕ) → p ≡ s → fits (length p) 0 out ≡ false → Judged x s out (Refused Room) (putInto p 0 out)
+  put-nowhere e p q h =
+      let is = no-room-for e (omega (arith, leb-false (0 + length p) (length out) h, ap length q)) in
+      record { answers = is .answers; holds = unchanged p 0 out h ∙ is .holds }
+
+  pub put-there : isSheetOf x s ≡ true → (p : List ℕ) → p ≡ s → fits (length p) 0 out ≡ true → Judged x s out (Count (length s)) (putInto p 0 out)
+  put-there e p q h =
+      let is = section-written e (omega (arith, leb-true (0 + length p) (length out) h, ap length q)) in
+      record { answers = is .answers; holds = at-front p out h ∙ ap (λ (l : List ℕ). l ++ drop (length l) out) q ∙ is .holds }

@@ -1,7 +1,6 @@
 // The field sheet of a section, every field as one number in order, and the section of a field sheet.
 ghost use mathlib.Core.Path.{_≡_};
 ghost use Prim.Native.Nat.{_+_, _-_, _*_, _≤_};
-ghost use mathlib.Core.List.{_++_};
 ghost use lib.ListN.{length, take, drop, replicate};
 ghost use Rattle.section.specs.declared.Verdict.the-variants.{Accepted};
 ghost use Rattle.section.specs.Accept.{acceptOf};
@@ -63,11 +62,11 @@ fn made(sheet: &[u64], widths: &[u8], memory: &mut [u8], n: usize, out: &mut [u8
     if !is_sheet_of(sheet, &memory[..n]) {
         return Written::Refused(Refusal::Sheet);
     }
-    if out.len() < n {
-        return Written::Refused(Refusal::Room);
+    if lent::put(&memory[..n], out, 0) {
+        Written::Count(n)
+    } else {
+        Written::Refused(Refusal::Room)
     }
-    copy(&memory[..n], out);
-    Written::Count(n)
 }
 
 // Whether the bytes are a section and have that sheet.
@@ -147,14 +146,4 @@ fn same_fields(
         place += width;
     }
     true
-}
-
-// Copies the bytes to the front of out.
-fn copy(bytes: &[u8], out: &mut [u8])
-    requires { ⌜ length (now bytes) ≤ length (now out) ⌝ }
-    ensures { λ _. ⌜ now (out .exit) ≡ now (bytes .entry) ++ drop (length (now (bytes .entry))) (now (out .entry)) ⌝ }
-{
-    for i in 0..bytes.len() {
-        out[i] = bytes[i];
-    }
 }

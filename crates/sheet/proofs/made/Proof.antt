@@ -1,15 +1,16 @@
 -- `sheet::made` meets its contract: the bytes that the numbers make count if they are a section with that sheet.
 -- Assumes nothing.
 use mathlib.Core.Path.{_≡_, sym, ap, _∙_}
-use mathlib.Core.List.{List, _++_}
+use mathlib.Core.Bool.{true}
+use mathlib.Core.List.{List}
 use Prim.Native.Nat.{ℕ}
 use native.Mathlib.Omega.{arith}
-use lib.ListN.{length, take, drop}
+use lib.ListN.{length, take}
 use lib.Seq.{length-take-le}
 use borrow.Author.Tests.{not-true, not-false}
 use Rattle.units.specs.declared.refusals.Written.the-variants.{Count}
 use Rattle.sheet.specs.Sheet.{filled, summed, isSheetOf}
-use Rattle.sheet.proofs.Rows.{not-it, no-room-for, section-written}
+use Rattle.sheet.proofs.Rows.{not-it, put-there, put-nowhere}
 use borrow.Author.Needs.{needs}
 use Rattle.sheet.proofs.made.Statement.{statement}
 use Rattle.sheet.proofs.made.Tie as tie
@@ -54,49 +55,54 @@ returns c =
     not-it (a .sheet .now) (defined q) (a .out .now)
     (ap (isSheetOf (a .sheet .now)) (sym (same-bytes q)) ∙ sym (c .before .is-sheet-of .ensures) ∙ not-true (c .before .is-sheet-of .result) (c .if1 .taken))
 
+slice-reshare-prefix-put : tie.Need-slice-reshare-prefix-put
+slice-reshare-prefix-put c = search needs
+
+slice-aggregate-put : tie.Need-slice-aggregate-put
+slice-aggregate-put c = sym (long (c .before .before .before .before .before))
+
+put-requires : tie.Need-put-requires
+put-requires c κs = search needs
+
 same-length-2 : tie.Need-same-length-2
 same-length-2 c = search needs
-
-returns-2 : tie.Need-returns-2
-returns-2 c =
-    let a = c .before .before .before .before .before .before .before .before .before .before .before .before .args in
-    let q = c .before .before .before .before .before .before in
-    let is-sheet-of = c .before .before .is-sheet-of in
-    no-room-for (a .sheet .now) (defined q) (a .out .now)
-    (ap (isSheetOf (a .sheet .now)) (sym (same-bytes q)) ∙ sym (is-sheet-of .ensures) ∙ not-false (is-sheet-of .result) (c .before .if1 .left))
-    (omega (arith, ap length (same-bytes q), long (c .before .before .before .before .before), c .if2 .taken))
-
-slice-reshare-prefix-copy : tie.Need-slice-reshare-prefix-copy
-slice-reshare-prefix-copy c = search needs
-
-slice-aggregate-copy : tie.Need-slice-aggregate-copy
-slice-aggregate-copy c = sym (long (c .before .before .before .before .before .before))
-
-copy-requires : tie.Need-copy-requires
-copy-requires c κs = omega (arith, long (c .before .before .before .before .before .before .before), c .before .before .if2 .left)
 
 same-length-3 : tie.Need-same-length-3
 same-length-3 c = search needs
 
+-- the bytes are a section with that sheet
+it-is : (c : tie.Else1) → isSheetOf (c .before .before .before .before .before .before .before .before .before .before .before .args .sheet .now) (defined (c .before .before .before .before .before)) ≡ true
+it-is c =
+    let a = c .before .before .before .before .before .before .before .before .before .before .before .args in
+    let is-sheet-of = c .before .is-sheet-of in
+    ap (isSheetOf (a .sheet .now)) (sym (same-bytes (c .before .before .before .before .before)))
+    ∙ sym (is-sheet-of .ensures)
+    ∙ not-false (is-sheet-of .result) (c .if1 .left)
+
+returns-2 : tie.Need-returns-2
+returns-2 c =
+    let put = c .before .before .before .put in
+    let left = c .before .before .before .before .before .before in
+    let q = c .before .before .before .before .before .before .before .before .before .before .before in
+    let a = start q .args in
+    let size : length (defined q) ≡ a .n = sym (ap length (same-bytes q)) ∙ long (c .before .before .before .before .before .before .before .before .before .before) in
+    let is = put-there (a .sheet .now) (defined q) (a .out .now) (it-is left) (made q) (same-bytes q) (sym (put .ensures .0) ∙ c .if2 .taken) in
+    record { answers = ap Count (sym size) ∙ is .answers; holds = put .ensures .1 ∙ is .holds }
+
 same-length-4 : tie.Need-same-length-4
 same-length-4 c = search needs
 
+same-length-5 : tie.Need-same-length-5
+same-length-5 c = search needs
+
 returns-3 : tie.Need-returns-3
 returns-3 c =
-    let a = c .before .before .before .before .before .before .before .before .before .before .before .before .before .before .before .before .before .args in
+    let put = c .before .before .before .put in
+    let left = c .before .before .before .before .before .before in
     let q = c .before .before .before .before .before .before .before .before .before .before .before in
-    let copy = c .before .before .copy in
-    let if2 = c .before .before .before .before .before .if2 in
-    let if1 = c .before .before .before .before .before .before .if1 in
-    let is-sheet-of = c .before .before .before .before .before .before .before .is-sheet-of in
-    let size : length (defined q) ≡ a .n = sym (ap length (same-bytes q)) ∙ long (c .before .before .before .before .before .before .before .before .before .before) in
-    let written =
-    section-written (a .sheet .now) (defined q) (a .out .now)
-    (ap (isSheetOf (a .sheet .now)) (sym (same-bytes q)) ∙ sym (is-sheet-of .ensures) ∙ not-false (is-sheet-of .result) (if1 .left)) (omega (arith, size, if2 .left)) in
-    record {
-      answers = ap Count (sym size) ∙ written .answers;
-      holds = copy .ensures ∙ ap (λ (l : List ℕ). l ++ drop (length l) (a .out .now)) (same-bytes q) ∙ written .holds;
-    }
+    let a = start q .args in
+    let is = put-nowhere (a .sheet .now) (defined q) (a .out .now) (it-is left) (made q) (same-bytes q) (sym (put .ensures .0) ∙ c .if2 .left) in
+    record { answers = is .answers; holds = put .ensures .1 ∙ is .holds }
 
 pub made-spec : {M : Type 1} → statement M
 made-spec =
@@ -108,11 +114,12 @@ made-spec =
     is-sheet-of-requires
     same-length
     returns
+    slice-reshare-prefix-put
+    slice-aggregate-put
+    put-requires
     same-length-2
-    returns-2
-    slice-reshare-prefix-copy
-    slice-aggregate-copy
-    copy-requires
     same-length-3
+    returns-2
     same-length-4
+    same-length-5
     returns-3)
