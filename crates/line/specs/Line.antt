@@ -10,8 +10,8 @@ use Rattle.units.specs.Refusals.{numberOf, named}
 use Rattle.units.specs.Answers.{answer, memory}
 use Rattle.units.specs.Clock.{millisOf}
 use Rattle.text.specs.Text.{readRow, decoded}
-use Rattle.house.specs.declared.answers.Break.{Break}
-use Rattle.house.specs.House.{breakAnswer}
+use Rattle.signals.specs.declared.Break.{Break}
+use Rattle.breaks.specs.Breaks.{breakAnswer}
 use Rattle.line.specs.declared.Line.{Line}
 
 -- ---- the answer
