@@ -42,12 +42,16 @@ use Rattle.known_walk.proofs.EachStands.{each-stands}
 use Rattle.reading.specs.Reading as Asks
 use Rattle.command_questions.specs.Questions.{asked}
 use Rattle.command_questions.proofs.Asked.{when-open, when-refused}
-use Rattle.house.specs.declared.answers.Break.{Break}
-use Rattle.house.specs.declared.answers.EffectiveTime.{EffectiveTime}
-use Rattle.house.specs.declared.answers.Dvb.{Dvb}
-use Rattle.house.specs.declared.answers.Label.{Label}
-use Rattle.house.specs.House.{knownReadings, breakBy, refusedBreak, effectiveBy, labelAt, labelOf, billLabel}
-use Rattle.house.specs.House as House
+use Rattle.signals.specs.declared.Break.{Break}
+use Rattle.signals.specs.Signals.{knownReadings}
+use Rattle.breaks.specs.Breaks.{breakBy, refusedBreak}
+use Rattle.breaks.specs.Breaks as Breaks
+use Rattle.times.specs.declared.answers.EffectiveTime.{EffectiveTime}
+use Rattle.times.specs.declared.answers.Dvb.{Dvb}
+use Rattle.times.specs.Times.{effectiveBy}
+use Rattle.times.specs.Times as Times
+use Rattle.labels.specs.declared.answers.Label.{Label}
+use Rattle.labels.specs.Labels.{labelAt, labelOf, billLabel, labelBytes}
 use Rattle.demands.specs.Same.{left, rowsOf, Same}
 use Rattle.demands.specs.OneCue.{unplaced, OneCue}
 use Rattle.demands.proofs.Blank.{look-blank, command-blank, insert-component-blank, event-blank, event-component-blank, private-byte-blank, descriptor-blank, dtmf-blank, segmentation-component-blank, audio-component-blank}
@@ -74,8 +78,8 @@ module _ (s : List ℕ) (e : acceptOf s ≡ Accepted) (h : eqb (the s "encrypted
   command-is = ap (λ (r : Reading). whereRead r (commandOf (commandTrace s))) (command-read s e (is-left s e h))
 
   -- its label
-  label-is : AreBytes s → (house : List ℕ) → House.labelBytes s house ≡ billed house (blanksAt s (cursors s))
-  unfolding House.labelBytes billLabel
+  label-is : AreBytes s → (house : List ℕ) → labelBytes s house ≡ billed house (blanksAt s (cursors s))
+  unfolding labelBytes billLabel
   label-is hs house =
       ap (labelOf s house) (when-open (λ r. Label.House) (λ c. labelAt s (knownCursors s c)) (firstCursor s) (open-first s e h))
       ∙ label-blanks s house (cursors s) (each-stands s (firstCursor s)) hs
@@ -120,7 +124,7 @@ module _ (s s′ : List ℕ) (hs : AreBytes s) (hs′ : AreBytes s′) (e : acce
       ∙ sym (unplaced-said (numbered (cursors s′) n .at) (knownTrace s′ (firstCursor s′) n))
 
   one-cue : OneCue s s′
-  unfolding Asks.command Asks.insertComponent Asks.scheduleEvent Asks.eventComponent Asks.privateByte Asks.knownCount Asks.knownDescriptor Asks.dtmfChar Asks.segmentationComponent Asks.audioComponent Asks.upid House.effectiveTime House.dvb House.breakAnswer
+  unfolding Asks.command Asks.insertComponent Asks.scheduleEvent Asks.eventComponent Asks.privateByte Asks.knownCount Asks.knownDescriptor Asks.dtmfChar Asks.segmentationComponent Asks.audioComponent Asks.upid Times.effectiveTime Times.dvb Breaks.breakAnswer
   one-cue =
       record {
         command = both Command.Refused (λ c. Commands.command s) (λ c. Commands.command s′) commands;
@@ -180,8 +184,8 @@ demand-3 = one-cue
 
 -- ---- what is unread
 
-pub sealed-unread : (s : List ℕ) → acceptOf s ≡ Accepted → eqb (the s "encrypted_packet") 1 ≡ true → House.breakAnswer s ≡ Break.Unread
-unfolding House.breakAnswer
+pub sealed-unread : (s : List ℕ) → acceptOf s ≡ Accepted → eqb (the s "encrypted_packet") 1 ≡ true → Breaks.breakAnswer s ≡ Break.Unread
+unfolding Breaks.breakAnswer
 sealed-unread s e h = when-refused refusedBreak (λ c. breakBy (Commands.command s) (knownReadings s c)) Refusal.Sealed (sealed-open s e h)
 
 -- no type of Table 7
@@ -199,8 +203,8 @@ unread-type t h =
 
 pub unknown-unread : (s : List ℕ) → acceptOf s ≡ Accepted
     → isAmong (look (commandTrace s) "splice_command_type") (0x00 ∷ 0x04 ∷ 0x05 ∷ 0x06 ∷ 0x07 ∷ 0xFF ∷ []) ≡ false
-    → House.breakAnswer s ≡ Break.Unread
-unfolding House.breakAnswer
+    → Breaks.breakAnswer s ≡ Break.Unread
+unfolding Breaks.breakAnswer
 unknown-unread s e q =
     ⊎-elim (sealed-unread s e)
     (λ h. when-open refusedBreak (λ c. breakBy (Commands.command s) (knownReadings s c)) (firstCursor s) (open-first s e h)

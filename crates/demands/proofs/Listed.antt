@@ -26,8 +26,9 @@ use Rattle.descriptor_reading.proofs.UpidPart.{standing-part}
 use Rattle.reading.specs.Reading.{upid, partOf, upidBytes}
 use Rattle.command_questions.proofs.Asked.{when-open}
 use Rattle.reading.proofs.UpidBytes.{part-values}
-use Rattle.house.specs.declared.answers.Label.{Label}
-use Rattle.house.specs.House.{readAt, labelled, labelAt, labelOf}
+use Rattle.labels.specs.declared.answers.Label.{Label}
+use Rattle.signals.specs.Signals.{readAt}
+use Rattle.labels.specs.Labels.{labelled, labelAt, labelOf}
 use Rattle.demands.specs.OneCue.{unplaced}
 use Rattle.demands.proofs.Blank.{look-blank, all-blank, descriptor-blank}
 use Rattle.demands.proofs.Walked.{blanksAt}

@@ -5,7 +5,9 @@ use mathlib.Core.List.{List}
 use Prim.Native.Nat.{ℕ}
 use Rattle.descriptor_reading.specs.declared.answers.Upid.{Upid}
 use Rattle.reading.specs.Reading as Asks
-use Rattle.house.specs.House as House
+use Rattle.breaks.specs.Breaks as Breaks
+use Rattle.times.specs.Times as Times
+use Rattle.labels.specs.Labels as Labels
 
 -- the place of a part is set to 0: its length and a refusal are left
 abbrev pub unplaced : Upid → Upid
@@ -29,7 +31,7 @@ pub record OneCue (s s′ : List ℕ) : Type 0 where
   pub upid : (n : ℕ) → unplaced (Asks.upid s n) ≡ unplaced (Asks.upid s′ n)
   pub upidBytes : (n : ℕ) → Asks.upidBytes s n ≡ Asks.upidBytes s′ n
   -- the house's answers
-  pub effectiveTime : House.effectiveTime s ≡ House.effectiveTime s′
-  pub dvb : House.dvb s ≡ House.dvb s′
-  pub breakAnswer : House.breakAnswer s ≡ House.breakAnswer s′
-  pub labelBytes : (house : List ℕ) → House.labelBytes s house ≡ House.labelBytes s′ house
+  pub effectiveTime : Times.effectiveTime s ≡ Times.effectiveTime s′
+  pub dvb : Times.dvb s ≡ Times.dvb s′
+  pub breakAnswer : Breaks.breakAnswer s ≡ Breaks.breakAnswer s′
+  pub labelBytes : (house : List ℕ) → Labels.labelBytes s house ≡ Labels.labelBytes s′ house

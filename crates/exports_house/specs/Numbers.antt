@@ -3,10 +3,10 @@
 use Prim.Native.Nat.{ℕ}
 use mathlib.Core.List.{[], _∷_}
 use Rattle.units.specs.Refusals.{numberOf}
-use Rattle.house.specs.declared.answers.Break.{Break}
-use Rattle.house.specs.declared.answers.EffectiveTime.{EffectiveTime}
-use Rattle.house.specs.declared.answers.Dvb.{Dvb}
-use Rattle.house.specs.declared.answers.Label.{Label}
+use Rattle.signals.specs.declared.Break.{Break}
+use Rattle.times.specs.declared.answers.EffectiveTime.{EffectiveTime}
+use Rattle.times.specs.declared.answers.Dvb.{Dvb}
+use Rattle.labels.specs.declared.answers.Label.{Label}
 use Rattle.wire.specs.Given.{Numbers, refused, these}
 
 -- no break, one of so many ticks, one without measure, or a cue that is not read

@@ -4,7 +4,9 @@ mod numbers;
 
 ghost use mathlib.Core.Path.{_≡_};
 ghost use lib.ListN.{length};
-ghost use Rattle.house.specs.House as house_says;
+ghost use Rattle.breaks.specs.Breaks.{breakAnswer};
+ghost use Rattle.times.specs.Times.{effectiveTime, dvb};
+ghost use Rattle.labels.specs.Labels.{billLabel};
 ghost use Rattle.wire.specs.Wire.{wire};
 ghost use Rattle.wire.specs.Given.{given, givenInto};
 ghost use Rattle.exports_house.specs.Numbers.{breakAnswerNumbers, effectiveTimeNumbers, dvbNumbers, labelNumbers};
@@ -12,7 +14,7 @@ ghost use Rattle.exports_house.specs.Numbers.{breakAnswerNumbers, effect
 // Whether the section opens a break, and how long it lasts.
 #[no_mangle]
 pub extern "C" fn timpanimist_break(section: &[u8], out: &mut [u64]) -> u64
-    ensures { λ r. ⌜ (r ≡ wire (given (breakAnswerNumbers (house_says.breakAnswer (now (section .entry)))) (now (out .entry)))) × (now (out .exit) ≡ givenInto (breakAnswerNumbers (house_says.breakAnswer (now (section .entry)))) (now (out .entry))) ⌝ }
+    ensures { λ r. ⌜ (r ≡ wire (given (breakAnswerNumbers (breakAnswer (now (section .entry)))) (now (out .entry)))) × (now (out .exit) ≡ givenInto (breakAnswerNumbers (breakAnswer (now (section .entry)))) (now (out .entry))) ⌝ }
 {
     let answer = house::break_answer(section);
     wire::number(numbers::break_answer(answer, out))
@@ -21,7 +23,7 @@ pub extern "C" fn timpanimist_break(section: &[u8], out: &mut [u64]) -> u64
 // When the splice takes place on the stream's own clock.
 #[no_mangle]
 pub extern "C" fn timpanimist_effective_time(section: &[u8], out: &mut [u64]) -> u64
-    ensures { λ r. ⌜ (r ≡ wire (given (effectiveTimeNumbers (house_says.effectiveTime (now (section .entry)))) (now (out .entry)))) × (now (out .exit) ≡ givenInto (effectiveTimeNumbers (house_says.effectiveTime (now (section .entry)))) (now (out .entry))) ⌝ }
+    ensures { λ r. ⌜ (r ≡ wire (given (effectiveTimeNumbers (effectiveTime (now (section .entry)))) (now (out .entry)))) × (now (out .exit) ≡ givenInto (effectiveTimeNumbers (effectiveTime (now (section .entry)))) (now (out .entry))) ⌝ }
 {
     let answer = house::effective_time(section);
     wire::number(numbers::effective_time(answer, out))
@@ -30,7 +32,7 @@ pub extern "C" fn timpanimist_effective_time(section: &[u8], out: &mut [u64]) ->
 // Whether the section passes the first DVB-DASH check.
 #[no_mangle]
 pub extern "C" fn timpanimist_dvb(section: &[u8], out: &mut [u64]) -> u64
-    ensures { λ r. ⌜ (r ≡ wire (given (dvbNumbers (house_says.dvb (now (section .entry)))) (now (out .entry)))) × (now (out .exit) ≡ givenInto (dvbNumbers (house_says.dvb (now (section .entry)))) (now (out .entry))) ⌝ }
+    ensures { λ r. ⌜ (r ≡ wire (given (dvbNumbers (dvb (now (section .entry)))) (now (out .entry)))) × (now (out .exit) ≡ givenInto (dvbNumbers (dvb (now (section .entry)))) (now (out .entry))) ⌝ }
 {
     let answer = house::dvb(section);
     wire::number(numbers::dvb(answer, out))
@@ -40,7 +42,7 @@ pub extern "C" fn timpanimist_dvb(section: &[u8], out: &mut [u64]) -> u64
 // many they are.
 #[no_mangle]
 pub extern "C" fn timpanimist_bill_label(section: &[u8], house: &[u8], out: &mut [u64]) -> u64
-    ensures { λ r. ⌜ (r ≡ wire (given (labelNumbers (length (now (house .entry))) (house_says.billLabel (now (section .entry)))) (now (out .entry)))) × (now (out .exit) ≡ givenInto (labelNumbers (length (now (house .entry))) (house_says.billLabel (now (section .entry)))) (now (out .entry))) ⌝ }
+    ensures { λ r. ⌜ (r ≡ wire (given (labelNumbers (length (now (house .entry))) (billLabel (now (section .entry)))) (now (out .entry)))) × (now (out .exit) ≡ givenInto (labelNumbers (length (now (house .entry))) (billLabel (now (section .entry)))) (now (out .entry))) ⌝ }
 {
     let answer = house::label(section);
     wire::number(numbers::label(answer, house.len(), out))

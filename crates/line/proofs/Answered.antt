@@ -12,7 +12,7 @@ use Rattle.units.specs.declared.refusals.Refusal.{Refusal}
 use Rattle.units.specs.declared.refusals.Refusal.the-variants.{TextLen}
 use Rattle.units.specs.declared.refusals.Written.{Written}
 use Rattle.units.specs.Answers.{answer, memory}
-use Rattle.house.specs.House.{breakAnswer}
+use Rattle.breaks.specs.Breaks.{breakAnswer}
 use Rattle.text.specs.Text.{readRow, read, readInto, count, decoded}
 use Rattle.base64.proofs.Decoded.{length-decoded}
 use Rattle.text.proofs.Rows.{row-long, row-room, accepted}

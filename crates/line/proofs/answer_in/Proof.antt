@@ -7,7 +7,7 @@ use Prim.Native.Nat.{ℕ, _≤_}
 use native.Mathlib.Omega.{arith}
 use lib.ListN.{length, take}
 use lib.Seq.{length-take-le}
-use Rattle.house.specs.House.{breakAnswer}
+use Rattle.breaks.specs.Breaks.{breakAnswer}
 use Rattle.line.specs.Line.{inMillis, refusedText}
 use Rattle.line.proofs.Answered.{refused, inside as room, answered}
 use Rattle.line.proofs.answer_in.Statement.{statement}

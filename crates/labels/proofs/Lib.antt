@@ -1,0 +1,2 @@
+pub mod LabelPart
+pub mod Left
