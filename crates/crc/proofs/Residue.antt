@@ -14,9 +14,9 @@ use Rattle.bits.specs.Bits.{bit, num}
 use Rattle.bits.proofs.Num.{num-lt, num-ext}
 use Rattle.bits.proofs.Bytes.{AreBytes, bit-lt, word, num-word}
 use Rattle.bits.proofs.Parts.{bit-left, bit-right}
+use Rattle.crc_tables.specs.Steps.{zeros}
+use Rattle.crc_tables.proofs.Xor.{xor-zero}
 use Rattle.crc.specs.Crc.{register, crc32, be32}
-use Rattle.crc.specs.Turns.{zeros}
-use Rattle.crc.proofs.Xor.{xor-zero}
 use Rattle.crc.proofs.Register.{zeros-zero, zeros-back, register-ext, register-lt}
 use Rattle.crc.proofs.Turns.{four-turn}
 

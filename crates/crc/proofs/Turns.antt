@@ -10,9 +10,10 @@ use lib.Bits.{bitXor, xor-lt}
 use Rattle.bits.specs.Bits.{bit, num}
 use Rattle.bits.proofs.Num.{num-lt}
 use Rattle.bits.proofs.Bytes.{AreBytes, bit-lt, byte-field}
+use Rattle.crc_tables.specs.Steps.{zeros}
+use Rattle.crc_tables.proofs.Steps.{zeros-lt, zeros-linear}
 use Rattle.crc.specs.Crc.{register}
-use Rattle.crc.specs.Turns.{zeros}
-use Rattle.crc.proofs.Register.{register-lt, register-more, zeros-lt, zeros-linear}
+use Rattle.crc.proofs.Register.{register-lt, register-more}
 use Rattle.crc.proofs.Ahead.{zeros-add}
 
 pub one-turn : (s : List ℕ) → AreBytes s → (i : ℕ)

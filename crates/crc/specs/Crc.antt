@@ -1,17 +1,11 @@
 -- CRC-32 as ISO/IEC 13818-1 has it, one bit at a time: polynomial 0x04C11DB7, start 0xFFFFFFFF, most significant bit
 -- first, no final inversion.
 -- Assumes nothing.
+unfoldable pub use Rattle.crc_tables.specs.Steps.{step}
 use Prim.Native.Nat.{ℕ, zero, suc, _*_, _/_, _%_, _^_}
-use mathlib.Core.Bool.{cond}
 use mathlib.Core.List.{List, [], _∷_}
 use lib.ListN.{length}
-use lib.Dec.{eqb}
-use lib.Bits.{bitXor}
 use Rattle.bits.specs.Bits.{bit}
-
--- the register after one more bit b: it moves up by one place, and the polynomial goes in where the bit that leaves at the top is not b
-unfoldable pub step : ℕ → ℕ → ℕ
-step r b = cond (eqb (r / 2 ^ 31) b) (r * 2 % 2 ^ 32) (bitXor (r * 2 % 2 ^ 32) 0x04C11DB7)
 
 -- the register after the first n of the bits f
 unfoldable pub register : (ℕ → ℕ) → ℕ → ℕ

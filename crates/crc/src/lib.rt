@@ -5,10 +5,9 @@ ghost use Prim.Native.Nat.{_+_, _*_, _/_, _%_, _^_, _≤_, _<_};
 ghost use lib.ListN.{length, getD};
 ghost use lib.Bits.{bitXor};
 ghost use Rattle.bits.specs.Bits.{bit, num};
+ghost use Rattle.crc_tables.specs.Steps.{zeros};
 ghost use Rattle.crc.specs.Crc.{crc32};
-ghost use Rattle.crc.specs.Turns.{Passed, zeros};
-
-mod tables;
+ghost use Rattle.crc.specs.Turns.{Passed};
 
 // The CRC of s. A section, its last four bytes included, has the CRC 0 exactly when those four are the CRC of the rest.
 pub fn crc(s: &[u8]) -> u32
@@ -42,14 +41,14 @@ fn rest(s: &[u8], mut i: usize, mut r: u32) -> u32
 fn eight(r: u32, a: u32, b: u32) -> u32
     ensures { λ q. ⌜ q ≡ bitXor (zeros 64 (bitXor r a)) (zeros 32 b) ⌝ }
 {
-    high(tables::ahead(r ^ a)) ^ low(tables::ahead(b))
+    high(crc_tables::ahead(r ^ a)) ^ low(crc_tables::ahead(b))
 }
 
 // The register r after the four bytes of the word a.
 fn four(r: u32, a: u32) -> u32
     ensures { λ q. ⌜ q ≡ zeros 32 (bitXor r a) ⌝ }
 {
-    low(tables::ahead(r ^ a))
+    low(crc_tables::ahead(r ^ a))
 }
 
 // The register r after the byte b.
@@ -57,7 +56,7 @@ fn one(r: u32, b: u8) -> u32
     ensures { λ q. ⌜ q ≡ zeros 8 (bitXor r (b * 2 ^ 24)) ⌝ }
 {
     let x = (r >> 24) ^ (b as u32);
-    (r << 8) ^ low(tables::nibble0(x) ^ tables::nibble1(x))
+    (r << 8) ^ low(crc_tables::byte_ahead(x))
 }
 
 // The number that the four bytes from i on make, most significant first.

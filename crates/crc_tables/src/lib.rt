@@ -1,25 +1,25 @@
 // The register 64 and 32 bits ahead, by tables: what a register comes to is the xor of what its eight nibbles come to.
 ghost use mathlib.Core.Path.{_≡_};
 ghost use Prim.Native.Nat.{_*_, _/_, _%_, _^_};
-ghost use Rattle.crc.specs.Turns.{ahead};
+ghost use Rattle.crc_tables.specs.Steps.{ahead};
 
 // The register x after 64 more bits of 0 in the upper half, and after 32 in the lower.
 pub fn ahead(x: u32) -> u64
     ensures { λ r. ⌜ r ≡ ahead x ⌝ }
 {
-    nibble0(x)
-        ^ nibble1(x)
-        ^ nibble2(x)
-        ^ nibble3(x)
-        ^ nibble4(x)
-        ^ nibble5(x)
-        ^ nibble6(x)
-        ^ nibble7(x)
+    byte_ahead(x) ^ nibble2(x) ^ nibble3(x) ^ nibble4(x) ^ nibble5(x) ^ nibble6(x) ^ nibble7(x)
+}
+
+// The same of the lowest eight bits of x.
+pub fn byte_ahead(x: u32) -> u64
+    ensures { λ r. ⌜ r ≡ ahead (x % 256) ⌝ }
+{
+    nibble0(x) ^ nibble1(x)
 }
 
 // The lowest four bits of x ahead, and below the next four, up to nibble7. Each is a match and no array, which would be
 // copied to the stack at each use.
-pub fn nibble0(x: u32) -> u64
+fn nibble0(x: u32) -> u64
     ensures { λ r. ⌜ r ≡ ahead (x % 16) ⌝ }
 {
     match x % 16 {
@@ -42,7 +42,7 @@ pub fn nibble0(x: u32) -> u64
     }
 }
 
-pub fn nibble1(x: u32) -> u64
+fn nibble1(x: u32) -> u64
     ensures { λ r. ⌜ r ≡ ahead (x / 2 ^ 4 % 16 * 2 ^ 4) ⌝ }
 {
     match (x >> 4) % 16 {
