@@ -7,7 +7,7 @@ use Prim.Native.Nat.{ℕ}
 use types.Run.{OneOf}
 use denote.Enum.Declared.{tagOf}
 use Rattle.grammar.specs.Meaning.{isAmong}
-use Rattle.descriptors.proofs.Keys.{every, one-of}
+use Rattle.grammar.proofs.Keys.{every, one-of}
 use Rattle.command_reading.specs.declared.answers.SpliceTime.{SpliceTime}
 use Rattle.command_reading.specs.declared.answers.Command.{Command}
 use Rattle.command_reading.proofs.answers.SpliceTime as declared-time

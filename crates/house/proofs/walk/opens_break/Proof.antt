@@ -3,7 +3,7 @@
 use mathlib.Core.Path.{refl, sym}
 use Prim.Native.Nat.{ℕ}
 use Rattle.grammar.specs.Meaning.{isAmong}
-use Rattle.descriptors.proofs.Keys.{one-of, none-of}
+use Rattle.grammar.proofs.Keys.{one-of, none-of}
 use Rattle.house.specs.House.{breakTypes}
 use Rattle.house.proofs.walk.opens_break.Statement.{statement}
 use Rattle.house.proofs.walk.opens_break.Tie as tie
