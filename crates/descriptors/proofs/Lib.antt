@@ -1,4 +1,4 @@
-pub mod Keys
 pub mod ByKind
 pub mod Walk
+mod Ways
 pub mod Loop

@@ -16,3 +16,4 @@ pub mod Telling
 pub mod Names
 pub mod Endless
 pub mod Determined
+pub mod Keys

@@ -16,7 +16,7 @@ use Rattle.descriptors.specs.declared.Step.{Step}
 use Rattle.descriptors.specs.Walk.{stepOf}
 use Rattle.descriptors.specs.Loop.{traceAt}
 use Rattle.descriptors.proofs.Step as declared
-use Rattle.descriptors.proofs.Keys.{one-of}
+use Rattle.grammar.proofs.Keys.{one-of}
 use Rattle.known_walk.specs.Known.{isKnown, ofKnown, standingTrace}
 
 -- a step that finds none

@@ -4,6 +4,7 @@ use Prim.Native.Nat.{_-_, _*_}
 use native.Mathlib.Omega.{arith}
 use Rattle.bits.specs.Bits.{bit}
 use Rattle.grammar.proofs.Run.{filled-last, swept-bytes}
+use Rattle.segmentation.proofs.Ends.{runs}
 use Rattle.descriptors.specs.Walk.{tableOf}
 use borrow.Author.Needs.{needs}
 use Rattle.descriptors.proofs.descriptor.Statement.{statement}
@@ -52,7 +53,9 @@ returns-2 c env = rw (c .before .enum-told2 .given .1) (c .dtmf-descriptor .ensu
 
 returns-3 : tie.Need-returns-3
 unfolding tableOf
-returns-3 c env = rw (c .before .enum-told3 .given .1) (c .segmentation-descriptor .ensures env)
+returns-3 c env =
+    let a = c .before .before .before .before .args in
+    rw (c .before .enum-told3 .given .1) (runs (a .s .now) (a .at) (a .end) (omega arith) (omega arith) (c .segmentation-descriptor .ensures) env)
 
 returns-4 : tie.Need-returns-4
 unfolding tableOf

@@ -8,7 +8,7 @@ use denote.Enum.Declared.{tagOf}
 use lib.Dec.{ltb}
 use borrow.Author.Needs.{needs}
 use Rattle.descriptors.proofs.Kind as declared
-use Rattle.descriptors.proofs.Keys.{one-of}
+use Rattle.grammar.proofs.Keys.{one-of}
 use Rattle.descriptors.specs.declared.Kind.{Kind}
 use Rattle.known_walk.specs.Known.{isKnown}
 use Rattle.known_walk.proofs.is_known.Statement.{statement}

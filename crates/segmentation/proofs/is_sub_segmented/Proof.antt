@@ -1,13 +1,13 @@
--- `descriptors::is_sub_segmented` meets its contract: the arm's keys are the list's numbers.
+-- `segmentation::is_sub_segmented` meets its contract: the arm's keys are the list's numbers.
 -- Assumes nothing.
 use mathlib.Core.Path.{refl, sym}
 use mathlib.Core.List.{List, [], _∷_}
 use Prim.Native.Nat.{ℕ}
 use Rattle.grammar.specs.Meaning.{isAmong}
 use Rattle.grammar.specs.Tables.{sub-segmented}
-use Rattle.descriptors.proofs.Keys.{one-of, none-of}
-use Rattle.descriptors.proofs.is_sub_segmented.Statement.{statement}
-use Rattle.descriptors.proofs.is_sub_segmented.Tie as tie
+use Rattle.grammar.proofs.Keys.{one-of, none-of}
+use Rattle.segmentation.proofs.is_sub_segmented.Statement.{statement}
+use Rattle.segmentation.proofs.is_sub_segmented.Tie as tie
 
 abbrev keys : List ℕ
 keys = 0x30 ∷ 0x32 ∷ 0x34 ∷ 0x36 ∷ 0x38 ∷ 0x3A ∷ 0x44 ∷ 0x46 ∷ []

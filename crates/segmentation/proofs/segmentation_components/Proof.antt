@@ -1,4 +1,4 @@
--- `descriptors::segmentation_components` meets its contract: nothing where the flag is set, else a count and six bytes for each component.
+-- `segmentation::segmentation_components` meets its contract: nothing where the flag is set, else a count and six bytes for each component.
 -- Assumes nothing.
 use mathlib.Core.Path.{refl, sym, _∙_}
 use Prim.Native.Nat.{_*_, _<_}
@@ -9,8 +9,8 @@ use Rattle.grammar.specs.Tables.{segmentation-components}
 use Rattle.grammar.proofs.Run.{pass, short, yes-last, no-last, finished, all-there, not-all-there}
 use Rattle.grammar.proofs.Places.{octet}
 use borrow.Author.Needs.{needs}
-use Rattle.descriptors.proofs.segmentation_components.Statement.{statement}
-use Rattle.descriptors.proofs.segmentation_components.Tie as tie
+use Rattle.segmentation.proofs.segmentation_components.Statement.{statement}
+use Rattle.segmentation.proofs.segmentation_components.Tie as tie
 
 returns : tie.Need-returns
 unfolding segmentation-components
