@@ -1,4 +1,4 @@
-// What commands say, for programs in other languages, as lists of numbers. A slice passes as a pointer and then a
+// What a command says, for programs in other languages, as a list of numbers. A slice passes as a pointer and then a
 // length. The answer is the count of numbers written, or 2^63 plus the refusal's number.
 mod lists;
 mod numbers;
@@ -7,7 +7,7 @@ ghost use mathlib.Core.Path.{_≡_};
 ghost use Rattle.command_questions.specs.Questions as says;
 ghost use Rattle.wire.specs.Wire.{wire};
 ghost use Rattle.wire.specs.Given.{given, givenInto};
-ghost use Rattle.exports_commands.specs.Numbers.{commandNumbers, insertComponentNumbers, eventNumbers};
+ghost use Rattle.exports_commands.specs.Numbers.{commandNumbers};
 
 // The command of a section, as numbers: its case, and then the values of the case.
 #[no_mangle]
@@ -16,22 +16,4 @@ pub extern "C" fn timpanimist_command(section: &[u8], out: &mut [u64]) -> u64
 {
     let answer = command_questions::command(section);
     wire::number(numbers::command(answer, out))
-}
-
-// Component n of a splice insert: its tag, and its time.
-#[no_mangle]
-pub extern "C" fn timpanimist_insert_component(section: &[u8], n: usize, out: &mut [u64]) -> u64
-    ensures { λ r. ⌜ (r ≡ wire (given (insertComponentNumbers (says.insertComponent (now (section .entry)) n)) (now (out .entry)))) × (now (out .exit) ≡ givenInto (insertComponentNumbers (says.insertComponent (now (section .entry)) n)) (now (out .entry))) ⌝ }
-{
-    let answer = command_questions::insert_component(section, n);
-    wire::number(numbers::insert_component(answer, out))
-}
-
-// Event n of a splice schedule: its case, and then the values of the case.
-#[no_mangle]
-pub extern "C" fn timpanimist_schedule_event(section: &[u8], n: usize, out: &mut [u64]) -> u64
-    ensures { λ r. ⌜ (r ≡ wire (given (eventNumbers (says.scheduleEvent (now (section .entry)) n)) (now (out .entry)))) × (now (out .exit) ≡ givenInto (eventNumbers (says.scheduleEvent (now (section .entry)) n)) (now (out .entry))) ⌝ }
-{
-    let answer = command_questions::schedule_event(section, n);
-    wire::number(numbers::schedule_event(answer, out))
 }

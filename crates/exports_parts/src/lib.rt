@@ -1,7 +1,7 @@
 // The parts of commands and descriptors that are asked for by number, and where a UPID lies, for programs in other
 // languages, as lists of numbers. A slice passes as a pointer and then a length. The answer is the count of numbers
 // written, or 2^63 plus the refusal's number. A component of an insert, which has a time as a command does, is in
-// exports_commands.
+// exports_events.
 mod numbers;
 
 ghost use mathlib.Core.Path.{_≡_};

@@ -12,6 +12,11 @@ use lib.Seq.{sets, sets-eq, length-sets, length-take-le, take-append-seam}
 use borrow.Author.Tests.{le-leb, lt-leb}
 use Rattle.wire.specs.Put.{fits, putPlace, putInto, Put}
 
+-- the same numbers are put alike
+pub put-as : (m : List ℕ) (i : ℕ) {ns us : List ℕ} {j : ℕ} {l : List ℕ} → ns ≡ us → (j ≡ putPlace m i ns) × (l ≡ putInto m i ns)
+    → (j ≡ putPlace m i us) × (l ≡ putInto m i us)
+put-as m i e p = (p .0 ∙ ap (putPlace m i) e, p .1 ∙ ap (putInto m i) e)
+
 -- ---- with too little room, and with enough
 
 module _ (m : List ℕ) (i : ℕ) (ns : List ℕ) where

@@ -7,19 +7,31 @@ use native.Mathlib.Omega.{arith}
 use lib.ListN.{length}
 use borrow.Author.Needs.{needs}
 use Rattle.wire.proofs.Placed.{stands, told, both, as-long, room}
-use Rattle.exports_commands.proofs.Short.{time-short, mode-short}
+use Rattle.wire.specs.Put.{Put}
+use Rattle.command_numbers.specs.Numbers.{timeNumbers}
+use Rattle.command_numbers.proofs.Short.{time-short, avails-short}
+use Rattle.exports_commands.proofs.Short.{mode-short}
 use Rattle.exports_commands.proofs.lists.insert.Statement.{statement}
 use Rattle.exports_commands.proofs.lists.insert.Tie as tie
 
--- the room that is left after each part
+-- each part stands where it is put, and leaves room for the next
 
 left-put : (c : tie.After-put) → c .put .result + 10 ≤ length (c .put .last .0)
 left-put c = room 3 10 (stands (omega arith) (c .put .ensures)) (omega arith) (omega arith)
 
+put-time : (c : tie.After-time)
+    → let after-put = c .before .before .before .before in
+    let a = after-put .before .before .before .before .before .before .before .before .args in
+    Put (after-put .put .last .0) (after-put .put .result) (timeNumbers (a .x .time)) (c .time .result) (c .time .last .0)
+put-time c =
+    let after-put = c .before .before .before .before in
+    let a = after-put .before .before .before .before .before .before .before .before .args in
+    stands (omega (arith, left-put after-put, time-short (a .x .time))) (c .time .ensures)
+
 left-time : (c : tie.After-time) → c .time .result + 8 ≤ length (c .time .last .0)
 left-time c =
     let a = c .before .before .before .before .before .before .before .before .before .before .before .before .args in
-    room 2 8 (c .time .ensures) (time-short (a .x .time)) (left-put (c .before .before .before .before))
+    room 2 8 (put-time c) (time-short (a .x .time)) (left-put (c .before .before .before .before))
 
 left-mode : (c : tie.After-mode) → c .mode .result + 6 ≤ length (c .mode .last .0)
 left-mode c =
@@ -41,9 +53,7 @@ put-requires : tie.Need-put-requires
 put-requires c κs = tt
 
 time-requires : tie.Need-time-requires
-time-requires c κs =
-    let left = left-put (c .before .before .before) in
-    omega arith
+time-requires c κs = tt
 
 mode-requires : tie.Need-mode-requires
 mode-requires c κs =
@@ -51,7 +61,7 @@ mode-requires c κs =
     omega arith
 
 avails-requires : tie.Need-avails-requires
-avails-requires c κs = left-mode (c .before .before .before)
+avails-requires c κs = tt
 
 returns : tie.Need-returns
 returns c =
@@ -62,7 +72,7 @@ returns c =
     let after-flag = after-put .before .before in
     let a = after-flag .before .before .before .before .before .before .args in
     both (told (ap (λ (v : ℕ). 2 ∷ a .x .«splice_event_id» .0 ∷ v ∷ []) (after-flag .flag .ensures)) (stands (omega arith) (after-put .put .ensures)))
-    (both (after-time .time .ensures) (both (after-mode .mode .ensures) (after-avails .avails .ensures)))
+    (both (put-time after-time) (both (after-mode .mode .ensures) (stands (omega (arith, left-mode after-mode, avails-short (a .x .avails))) (after-avails .avails .ensures))))
 
 same-length : tie.Need-same-length
 same-length c = as-long (returns c)
