@@ -1,11 +1,13 @@
 -- `crc::rest` meets its contract. The loop's invariant: r is the register after the bytes passed.
 -- The measure is how many bytes are left. Assumes nothing.
-use mathlib.Core.Path.{_≡_, ap, _∙_}
-use Prim.Native.Nat.{ℕ, _-_, _*_}
+use mathlib.Core.Path.{_≡_, sym, ap, _∙_}
+use Prim.Native.Nat.{ℕ, _-_, _*_, _^_}
 use native.Mathlib.Omega.{arith}
-use lib.ListN.{length}
+use lib.ListN.{length, getD}
+use lib.Bits.{bitXor}
 use Rattle.bits.specs.Bits.{bit}
 use Rattle.bits.proofs.Bytes.{AreBytes}
+use Rattle.crc_tables.specs.Steps.{zeros}
 use Rattle.crc.specs.Crc.{register, crc32}
 use Rattle.crc.specs.Turns.{Passed}
 use Rattle.crc.proofs.Turns.{one-turn}
@@ -23,7 +25,12 @@ loop-again c =
     let at = c .before .before .before in
     let s = at .before .before .args .s .now in
     let bytes : AreBytes s = λ k. at .before .shared-slice-known .given k .fits in
-    record { within = omega arith; after = cc (one-turn s bytes (at .loop .i)) }
+    record {
+      within = omega arith;
+      after =
+          c .one .ensures ∙ ap (λ (x : ℕ). zeros 8 (bitXor x (getD s (at .loop .i) 0 * 2 ^ 24))) (at .loop .inv .after)
+          ∙ sym (one-turn s bytes (at .loop .i));
+    }
 
 returns : tie.Need-returns Inv-loop μ-loop
 unfolding crc32
