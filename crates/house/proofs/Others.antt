@@ -12,7 +12,7 @@ use Rattle.command_reading.specs.declared.answers.SpliceTime.{SpliceTime}
 use Rattle.command_reading.specs.declared.answers.Command.{Command}
 use Rattle.command_reading.proofs.answers.SpliceTime as declared-time
 use Rattle.command_reading.proofs.answers.Command as declared-command
-use Rattle.descriptor_reading.specs.declared.answers.Duration.{Duration}
+use Rattle.segmentation_reading.specs.declared.answers.Duration.{Duration}
 use Rattle.descriptor_reading.specs.declared.answers.Descriptor.{Descriptor}
 use Rattle.descriptor_reading.proofs.answers.Descriptor as declared-descriptor
 use Rattle.house.specs.declared.answers.Break.{Break}

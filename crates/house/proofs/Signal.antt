@@ -7,7 +7,7 @@ use native.Mathlib.Omega.{arith}
 use lib.Dec.{leb}
 use borrow.Author.Tests.{le-leb, lt-leb, leb-true, leb-false}
 use Rattle.units.specs.declared.clock.Ticks.{Ticks}
-use Rattle.descriptor_reading.specs.declared.answers.Duration.{Duration}
+use Rattle.segmentation_reading.specs.declared.answers.Duration.{Duration}
 use Rattle.descriptor_reading.specs.declared.answers.Descriptor.{Descriptor}
 use Rattle.house.specs.declared.answers.Break.{Break}
 use Rattle.house.specs.House.{opens, someOpens, carried, longer, signalDuration, lasting, signalBreak}

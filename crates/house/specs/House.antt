@@ -19,8 +19,8 @@ use Rattle.command_reading.specs.declared.answers.BreakDuration.{BreakDuration}
 use Rattle.command_reading.specs.declared.answers.Insert.{Insert}
 use Rattle.command_reading.specs.declared.answers.Command.{Command}
 use Rattle.command_reading.specs.Command.{commandTrace, command}
-use Rattle.descriptor_reading.specs.declared.answers.Duration.{Duration}
-use Rattle.descriptor_reading.specs.declared.answers.Segmentation.{Segmentation}
+use Rattle.segmentation_reading.specs.declared.answers.Duration.{Duration}
+use Rattle.segmentation_reading.specs.declared.answers.Segmentation.{Segmentation}
 use Rattle.descriptor_reading.specs.declared.answers.Descriptor.{Descriptor}
 use Rattle.descriptor_reading.specs.declared.answers.Upid.{Upid}
 use Rattle.known_walk.specs.Known.{knownCursors}

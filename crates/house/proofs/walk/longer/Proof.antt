@@ -5,7 +5,7 @@ use mathlib.Core.Bool.{Bool, cond}
 use native.Mathlib.Omega.{arith}
 use borrow.Author.Needs.{needs}
 use borrow.Author.Tests.{le-leb, lt-leb}
-use Rattle.descriptor_reading.specs.declared.answers.Duration.{Duration}
+use Rattle.segmentation_reading.specs.declared.answers.Duration.{Duration}
 use Rattle.house.specs.House.{longer}
 use Rattle.house.proofs.walk.longer.Statement.{statement}
 use Rattle.house.proofs.walk.longer.Tie as tie
