@@ -1,4 +1,3 @@
-pub mod Room
 pub mod Rows
 pub mod SegmentationNames
 pub mod SegmentationRows

@@ -18,12 +18,12 @@ use Rattle.grammar.proofs.Each.{all, Each, each-append, each-values}
 use Rattle.grammar.proofs.Traces.{size-append}
 use Rattle.grammar.proofs.Telling.{many}
 use Rattle.grammar.proofs.Names.{other, look-past, look-none, all-past, all-none, part-past, part-many, each-many, fieldsFrom, all-many}
-use Rattle.descriptor_reading.specs.declared.answers.Mode.{Mode}
-use Rattle.descriptor_reading.specs.declared.answers.Delivery.{Delivery}
-use Rattle.descriptor_reading.specs.declared.answers.Duration.{Duration}
-use Rattle.descriptor_reading.specs.declared.answers.SubSegments.{SubSegments}
+use Rattle.segmentation_reading.specs.declared.answers.Mode.{Mode}
+use Rattle.segmentation_reading.specs.declared.answers.Delivery.{Delivery}
+use Rattle.segmentation_reading.specs.declared.answers.Duration.{Duration}
+use Rattle.segmentation_reading.specs.declared.answers.SubSegments.{SubSegments}
 use Rattle.descriptor_reading.specs.Descriptor.{modeOf, deliveryOf, durationOf, subSegmentsOf, through}
-use Rattle.descriptor_reading.specs.Places.{afterComponents, upidPlace, afterUpid, modeAt, deliveryAt, durationAt, subSegmentsAt}
+use Rattle.segmentation_reading.specs.Places.{afterComponents, upidPlace, afterUpid, modeAt, deliveryAt, durationAt, subSegmentsAt}
 use Rattle.descriptor_reading.proofs.SegmentationRows as table
 use Rattle.descriptor_reading.proofs.SegmentationRows.{there, flag-set, deliveryRows, componentRows, durationRows, wholeRows, hasSubNumbers, endRows}
 use Rattle.descriptor_reading.proofs.Rows.{both, each-rows, each-cond, through-past, size-many}

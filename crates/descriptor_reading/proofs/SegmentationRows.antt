@@ -18,7 +18,7 @@ use Rattle.grammar.specs.Meaning.{Env, valueOf, values, isAmong, holds, read}
 use Rattle.grammar.specs.Tables.{delivery, segmentation-components, sub-segmented, segmentation-end, segmentation-descriptor}
 use Rattle.grammar.specs.Traces.{Trace}
 use Rattle.grammar.proofs.Telling.{Tells, so, place, over, rows, arm, arm-last, sub, sub-last, alike, many}
-use Rattle.descriptor_reading.specs.Places.{afterComponents, upidPlace, afterUpid}
+use Rattle.segmentation_reading.specs.Places.{afterComponents, upidPlace, afterUpid}
 
 -- ---- the parts
 

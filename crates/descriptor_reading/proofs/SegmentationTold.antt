@@ -17,8 +17,9 @@ use Rattle.grammar.specs.Traces.{Trace, size}
 use Rattle.grammar.specs.Names.{Name, look, isSet, allOf, part}
 use Rattle.grammar.proofs.Ends.{given}
 use Rattle.descriptor_reading.specs.declared.answers.Descriptor.{Descriptor}
-use Rattle.descriptor_reading.specs.Descriptor.{eventId, subSegmentsOf, segmentationOf, through}
-use Rattle.descriptor_reading.specs.Places.{upidPlace, segmentationAt, componentsAt}
+use Rattle.descriptor_reading.specs.Descriptor.{subSegmentsOf, segmentationOf, through}
+use Rattle.segmentation_reading.specs.Places.{eventId, upidPlace, uncancelledAt}
+use Rattle.descriptor_reading.specs.Places.{segmentationAt, componentsAt}
 use Rattle.descriptor_reading.proofs.SegmentationRows as table
 use Rattle.descriptor_reading.proofs.SegmentationRows.{there, deliveryRows, componentRows, durationRows, wholeRows, endRows, Whole, cancelled, whole}
 use Rattle.descriptor_reading.proofs.Rows.{bytes-are}
@@ -36,7 +37,7 @@ module _ (s : List ℕ) (at stop : ℕ) (inside : stop ≤ length s) where
 
   whole-says : (body : Trace) → flagOf s (8 * (at + 6 + 4)) ≡ false → Whole s stop (at + 6) body
       → segmentationOf (headed s at body) ≡ segmentationAt s (at + 6) stop
-  unfolding segmentationOf segmentationAt
+  unfolding segmentationOf segmentationAt uncancelledAt
   whole-says body e h =
       let u : ℕ = upidPlace s (at + 6) in
       let w : Trace = endRows s stop u in

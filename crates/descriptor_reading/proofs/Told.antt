@@ -25,7 +25,8 @@ use Rattle.descriptor_reading.specs.declared.answers.AudioComponent.{Aud
 use Rattle.descriptor_reading.specs.declared.answers.Upid.{Upid}
 use Rattle.descriptor_reading.specs.Descriptor.{segmentationOf, descriptorOf, dtmfCharOf, segmentationComponentOf, audioComponentOf, through, upidOf}
 use Rattle.known_walk.specs.Places.{Stands}
-use Rattle.descriptor_reading.specs.Places.{upidPlace, segmentationAt, componentsAt, tagAt, descriptorAt, dtmfCharAt, segmentationComponentAt, audioComponentAt, upidAt}
+use Rattle.segmentation_reading.specs.Places.{upidPlace}
+use Rattle.descriptor_reading.specs.Places.{segmentationAt, componentsAt, tagAt, descriptorAt, dtmfCharAt, segmentationComponentAt, audioComponentAt, upidAt}
 use Rattle.descriptor_reading.proofs.Tags.{reads-as, kind-is, is-tag}
 use Rattle.descriptor_reading.proofs.SegmentationTold as table
 use Rattle.descriptor_reading.proofs.SegmentationTold.{Component, UpidStands}

@@ -23,7 +23,8 @@ use Rattle.descriptor_reading.specs.declared.answers.Upid.{Upid}
 use Rattle.known_walk.specs.Known.{knownCursors, numbered, knownTrace}
 use Rattle.descriptor_reading.specs.Descriptor.{upidOf, upid}
 use Rattle.known_walk.specs.Places.{Stands}
-use Rattle.descriptor_reading.specs.Places.{upidPlace, tagAt, upidAt}
+use Rattle.segmentation_reading.specs.Places.{upidPlace}
+use Rattle.descriptor_reading.specs.Places.{tagAt, upidAt}
 use Rattle.descriptor_reading.proofs.Tags.{reads-as, kind-is}
 use Rattle.descriptor_reading.proofs.SegmentationTold.{upid-inside, upid-bytes}
 use Rattle.descriptor_reading.proofs.Told.{not-true, upid-told, none-upid}

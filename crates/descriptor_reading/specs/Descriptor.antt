@@ -6,18 +6,18 @@ use mathlib.Core.Bool.{Bool, cond, not, _&&_}
 use mathlib.Core.List.{List, [], _∷_}
 use lib.ListN.{length, getD}
 use lib.Dec.{ltb, eqb}
-use Rattle.units.specs.declared.clock.EventId.{EventId}
 use Rattle.units.specs.declared.refusals.Refusal.{Refusal}
 use Rattle.units.specs.Clock.{ticks}
 use Rattle.grammar.specs.Traces.{Trace, size}
 use Rattle.grammar.specs.Names.{isNamed, look, isSet, allOf, part}
 use Rattle.descriptors.specs.declared.Cursor.{Cursor}
 use Rattle.known_walk.specs.Known.{knownCursors, numbered, knownTrace, standingTrace}
-use Rattle.descriptor_reading.specs.declared.answers.Mode.{Mode}
-use Rattle.descriptor_reading.specs.declared.answers.Delivery.{Delivery}
-use Rattle.descriptor_reading.specs.declared.answers.Duration.{Duration}
-use Rattle.descriptor_reading.specs.declared.answers.SubSegments.{SubSegments}
-use Rattle.descriptor_reading.specs.declared.answers.Segmentation.{Segmentation}
+use Rattle.segmentation_reading.specs.declared.answers.Mode.{Mode}
+use Rattle.segmentation_reading.specs.declared.answers.Delivery.{Delivery}
+use Rattle.segmentation_reading.specs.declared.answers.Duration.{Duration}
+use Rattle.segmentation_reading.specs.declared.answers.SubSegments.{SubSegments}
+use Rattle.segmentation_reading.specs.declared.answers.Segmentation.{Segmentation}
+use Rattle.segmentation_reading.specs.Places.{eventId}
 use Rattle.descriptor_reading.specs.declared.answers.Descriptor.{Descriptor}
 use Rattle.descriptor_reading.specs.declared.answers.DtmfChar.{DtmfChar}
 use Rattle.descriptor_reading.specs.declared.answers.SegmentationComponent.{SegmentationComponent}
@@ -29,9 +29,6 @@ use Rattle.descriptor_reading.specs.declared.answers.Upid.{Upid}
 -- the descriptor has the identifier "CUEI" and that tag
 abbrev pub isTag : Trace → ℕ → Bool
 isTag t v = eqb (look t "identifier") 0x43554549 && eqb (look t "splice_descriptor_tag") v
-
-abbrev pub eventId : ℕ → EventId
-eventId n = record { 0 = n }
 
 abbrev pub modeOf : Trace → Mode
 modeOf t = cond (isSet t "program_segmentation_flag") Mode.Program (Mode.Components (look t "component_count"))

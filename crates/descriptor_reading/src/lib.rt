@@ -2,25 +2,24 @@
 // are not counted.
 mod answers;
 mod parts;
-mod segmentation;
 
 ghost use mathlib.Core.Path.{_≡_};
 ghost use Rattle.known_walk.specs.Known.{knownTrace};
 ghost use Rattle.descriptor_reading.specs.Descriptor.{standing, descriptorOf, standingUpid};
 ghost use Rattle.descriptor_reading.specs.Descriptor as says;
 pub use answers::AudioComponent;
-pub use answers::Delivery;
 pub use answers::Descriptor;
 pub use answers::DtmfChar;
-pub use answers::Duration;
 pub use answers::KnownCount;
-pub use answers::Mode;
-pub use answers::Segmentation;
 pub use answers::SegmentationComponent;
-pub use answers::SubSegments;
 pub use answers::Upid;
 use descriptors::Cursor;
 use known_walk::Place;
+pub use segmentation_reading::Delivery;
+pub use segmentation_reading::Duration;
+pub use segmentation_reading::Mode;
+pub use segmentation_reading::Segmentation;
+pub use segmentation_reading::SubSegments;
 use units::Refusal;
 
 // The known descriptor that stands at a cursor.

@@ -4,11 +4,11 @@ use Prim.Native.Nat.{_≤_}
 use native.Mathlib.Omega.{arith}
 use lib.Dec.{lit≤}
 use lib.ListN.{length, length-append}
-use Rattle.descriptor_reading.specs.declared.answers.Mode.{Mode}
-use Rattle.descriptor_reading.specs.declared.answers.Delivery.{Delivery}
-use Rattle.descriptor_reading.specs.declared.answers.Duration.{Duration}
-use Rattle.descriptor_reading.specs.declared.answers.SubSegments.{SubSegments}
-use Rattle.descriptor_reading.specs.declared.answers.Segmentation.{Segmentation}
+use Rattle.segmentation_reading.specs.declared.answers.Mode.{Mode}
+use Rattle.segmentation_reading.specs.declared.answers.Delivery.{Delivery}
+use Rattle.segmentation_reading.specs.declared.answers.Duration.{Duration}
+use Rattle.segmentation_reading.specs.declared.answers.SubSegments.{SubSegments}
+use Rattle.segmentation_reading.specs.declared.answers.Segmentation.{Segmentation}
 use Rattle.exports_descriptors.specs.Numbers.{segmentedNumbers, deliveryNumbers, durationNumbers, subSegmentNumbers, segmentationNumbers}
 
 pub segmented-short : (x : Mode) → length (segmentedNumbers x) ≤ 2

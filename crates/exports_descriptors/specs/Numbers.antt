@@ -4,11 +4,11 @@
 use Prim.Native.Nat.{ℕ}
 use mathlib.Core.List.{List, [], _∷_, _++_}
 use Rattle.units.specs.Refusals.{numberOf}
-use Rattle.descriptor_reading.specs.declared.answers.Mode.{Mode}
-use Rattle.descriptor_reading.specs.declared.answers.Delivery.{Delivery}
-use Rattle.descriptor_reading.specs.declared.answers.Duration.{Duration}
-use Rattle.descriptor_reading.specs.declared.answers.SubSegments.{SubSegments}
-use Rattle.descriptor_reading.specs.declared.answers.Segmentation.{Segmentation}
+use Rattle.segmentation_reading.specs.declared.answers.Mode.{Mode}
+use Rattle.segmentation_reading.specs.declared.answers.Delivery.{Delivery}
+use Rattle.segmentation_reading.specs.declared.answers.Duration.{Duration}
+use Rattle.segmentation_reading.specs.declared.answers.SubSegments.{SubSegments}
+use Rattle.segmentation_reading.specs.declared.answers.Segmentation.{Segmentation}
 use Rattle.descriptor_reading.specs.declared.answers.KnownCount.{KnownCount}
 use Rattle.descriptor_reading.specs.declared.answers.Descriptor.{Descriptor}
 use Rattle.wire.specs.Wire.{flagNumber}

@@ -7,7 +7,7 @@ use native.Mathlib.Omega.{arith}
 use lib.Dec.{leb}
 use borrow.Author.Tests.{le-leb, lt-leb, leb-true, leb-false}
 use Rattle.units.specs.declared.clock.Ticks.{Ticks}
-use Rattle.descriptor_reading.specs.declared.answers.Duration.{Duration}
+use Rattle.segmentation_reading.specs.declared.answers.Duration.{Duration}
 use Rattle.descriptor_reading.specs.declared.answers.Descriptor.{Descriptor}
 use Rattle.signals.specs.declared.Break.{Break}
 use Rattle.signals.specs.Signals.{opens, someOpens, carried, longer, signalDuration, lasting, signalBreak}

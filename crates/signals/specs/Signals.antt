@@ -8,7 +8,7 @@ use Rattle.grammar.specs.Meaning.{isAmong}
 use Rattle.descriptors.specs.declared.Cursor.{Cursor}
 use Rattle.descriptors.specs.Loop.{traceAt}
 use Rattle.known_walk.specs.Known.{knownCursors}
-use Rattle.descriptor_reading.specs.declared.answers.Duration.{Duration}
+use Rattle.segmentation_reading.specs.declared.answers.Duration.{Duration}
 use Rattle.descriptor_reading.specs.declared.answers.Descriptor.{Descriptor}
 use Rattle.descriptor_reading.specs.Descriptor.{descriptorOf}
 use Rattle.signals.specs.declared.Break.{Break}

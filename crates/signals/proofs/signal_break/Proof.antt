@@ -10,7 +10,7 @@ use lib.ListN.{length}
 use borrow.Author.Needs.{needs}
 use Rattle.descriptors.specs.declared.Step.{Step}
 use Rattle.descriptors.specs.Walk.{stepOf}
-use Rattle.descriptor_reading.specs.declared.answers.Duration.{Duration}
+use Rattle.segmentation_reading.specs.declared.answers.Duration.{Duration}
 use Rattle.descriptor_reading.specs.declared.answers.Descriptor.{Descriptor}
 use Rattle.descriptor_reading.specs.Descriptor.{standing}
 use Rattle.known_walk.proofs.KnownAmong.{less-left}

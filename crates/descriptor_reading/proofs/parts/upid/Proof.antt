@@ -8,7 +8,7 @@ use borrow.Author.Tests.{eq-eqb, ne-eqb}
 use Rattle.bits.specs.Bits.{fieldOf}
 use Rattle.descriptor_reading.specs.declared.answers.Upid.{Upid}
 use Rattle.descriptor_reading.specs.Places.{tagAt, upidAt}
-use Rattle.descriptor_reading.proofs.Room.{upid-room}
+use Rattle.segmentation_reading.proofs.Room.{upid-room}
 use Rattle.descriptor_reading.proofs.parts.upid.Statement.{statement}
 use Rattle.descriptor_reading.proofs.parts.upid.Tie as tie
 
@@ -43,6 +43,9 @@ returns-2 c =
 add-upid-place : tie.Need-add-upid-place
 add-upid-place c = search needs
 
+cast-upid-place : tie.Need-cast-upid-place
+cast-upid-place c = search needs
+
 upid-place-requires : tie.Need-upid-place-requires
 upid-place-requires c κs = search needs
 
@@ -57,8 +60,8 @@ octet-requires-2 c κs = search needs
 cast-segmentation-upid-length : tie.Need-cast-segmentation-upid-length
 cast-segmentation-upid-length c = search needs
 
-add-t10 : tie.Need-add-t10
-add-t10 c =
+add-t9 : tie.Need-add-t9
+add-t9 c =
     let a = c .before .before .before .before .before .before .before .args in
     omega (arith, upid-room (a .s .now) (a .at + 6))
 
@@ -85,9 +88,10 @@ upid-spec =
     flag-requires
     returns-2
     add-upid-place
+    cast-upid-place
     upid-place-requires
     add-octet
     octet-requires-2
     cast-segmentation-upid-length
-    add-t10
+    add-t9
     returns-3)

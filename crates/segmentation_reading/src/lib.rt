@@ -1,35 +1,33 @@
-// The parts of a segmentation descriptor (Table 20), by the byte after its identifier.
+// What a segmentation descriptor says (Table 20), by the byte after its identifier. Its place is a u16, and so no sum of
+// places is too large.
+mod answers;
+
 ghost use mathlib.Core.Path.{_≡_};
 ghost use Prim.Native.Nat.{_≤_};
-ghost use Rattle.descriptor_reading.specs.Places.{afterComponents, upidPlace, modeAt, deliveryAt, durationAt, subSegmentsAt, segmentationAt};
-use crate::answers::Delivery;
-use crate::answers::Descriptor;
-use crate::answers::Duration;
-use crate::answers::Mode;
-use crate::answers::Segmentation;
-use crate::answers::SubSegments;
+ghost use Rattle.segmentation_reading.specs.Places.{afterComponents, upidPlace, modeAt, deliveryAt, durationAt, subSegmentsAt, uncancelledAt};
+pub use answers::Delivery;
+pub use answers::Duration;
+pub use answers::Mode;
+pub use answers::Segmentation;
+pub use answers::SubSegments;
 use units::EventId;
 use units::Ticks;
 
-// The descriptor, which ends before byte `end`.
-pub(crate) fn segmentation(s: &[u8], at: usize, end: usize) -> Descriptor
-    requires { ⌜ at ≤ 4096 ⌝ }
-    ensures { λ r. ⌜ r ≡ segmentationAt (now (s .entry)) at end ⌝ }
+// A descriptor that is not cancelled, which ends before byte `end`.
+pub fn uncancelled(s: &[u8], at: u16, end: usize) -> Segmentation
+    ensures { λ r. ⌜ r ≡ uncancelledAt (now (s .entry)) at end ⌝ }
 {
-    let segmentation_event_id = EventId(bits::quad(s, at) as u32);
-    // segmentation_event_cancel_indicator
-    if bits::flag(s, 8 * (at + 4)) {
-        return Descriptor::CancelledSegmentation(segmentation_event_id);
-    }
-    let mode = mode(s, at);
-    let delivery = delivery(s, at);
-    let duration = duration(s, at);
+    let start = at as usize;
+    let segmentation_event_id = EventId(bits::quad(s, start) as u32);
+    let mode = mode(s, start);
+    let delivery = delivery(s, start);
+    let duration = duration(s, start);
     let upid = upid_place(s, at);
     let segmentation_upid_length = bits::octet(s, upid + 1);
     let after = upid + 2 + (segmentation_upid_length as usize);
     let segmentation_type_id = bits::octet(s, after);
     let sub_segments = sub_segments(s, segmentation_type_id, after + 3, end);
-    Descriptor::Segmentation(Segmentation {
+    Segmentation {
         segmentation_event_id,
         mode,
         delivery,
@@ -40,11 +38,25 @@ pub(crate) fn segmentation(s: &[u8], at: usize, end: usize) -> Descriptor
         segment_num: bits::octet(s, after + 1),
         segments_expected: bits::octet(s, after + 2),
         sub_segments,
-    })
+    }
+}
+
+// Where the UPID's type stands.
+pub fn upid_place(s: &[u8], at: u16) -> usize
+    ensures { λ r. ⌜ r ≡ upidPlace (now (s .entry)) at ⌝ }
+{
+    let start = at as usize;
+    let after = after_components(s, start);
+    // segmentation_duration_flag
+    if bits::flag(s, 8 * (start + 5) + 1) {
+        after + 5
+    } else {
+        after
+    }
 }
 
 fn mode(s: &[u8], at: usize) -> Mode
-    requires { ⌜ at ≤ 4096 ⌝ }
+    requires { ⌜ at ≤ 65535 ⌝ }
     ensures { λ r. ⌜ r ≡ modeAt (now (s .entry)) at ⌝ }
 {
     // program_segmentation_flag
@@ -56,7 +68,7 @@ fn mode(s: &[u8], at: usize) -> Mode
 }
 
 fn delivery(s: &[u8], at: usize) -> Delivery
-    requires { ⌜ at ≤ 4096 ⌝ }
+    requires { ⌜ at ≤ 65535 ⌝ }
     ensures { λ r. ⌜ r ≡ deliveryAt (now (s .entry)) at ⌝ }
 {
     let flags = 8 * (at + 5);
@@ -73,7 +85,7 @@ fn delivery(s: &[u8], at: usize) -> Delivery
 }
 
 fn duration(s: &[u8], at: usize) -> Duration
-    requires { ⌜ at ≤ 4096 ⌝ }
+    requires { ⌜ at ≤ 65535 ⌝ }
     ensures { λ r. ⌜ r ≡ durationAt (now (s .entry)) at ⌝ }
 {
     // segmentation_duration_flag
@@ -86,10 +98,10 @@ fn duration(s: &[u8], at: usize) -> Duration
 
 // The two bytes at `at`, where the type may have them and the descriptor does not end before.
 fn sub_segments(s: &[u8], segmentation_type_id: u8, at: usize, end: usize) -> SubSegments
-    requires { ⌜ at ≤ 16384 ⌝ }
+    requires { ⌜ at ≤ 131072 ⌝ }
     ensures { λ r. ⌜ r ≡ subSegmentsAt (now (s .entry)) «segmentation_type_id» at end ⌝ }
 {
-    if !descriptors::is_sub_segmented(segmentation_type_id) {
+    if !segmentation::is_sub_segmented(segmentation_type_id) {
         return SubSegments::Absent;
     }
     if end <= at {
@@ -103,7 +115,7 @@ fn sub_segments(s: &[u8], segmentation_type_id: u8, at: usize, end: usize) -> Su
 
 // Where the components end.
 fn after_components(s: &[u8], at: usize) -> usize
-    requires { ⌜ at ≤ 4096 ⌝ }
+    requires { ⌜ at ≤ 65535 ⌝ }
     ensures { λ r. ⌜ r ≡ afterComponents (now (s .entry)) at ⌝ }
 {
     // program_segmentation_flag
@@ -112,18 +124,4 @@ fn after_components(s: &[u8], at: usize) -> usize
     }
     let component_count = bits::octet(s, at + 6) as usize;
     at + 7 + 6 * component_count
-}
-
-// Where the UPID's type stands.
-pub(crate) fn upid_place(s: &[u8], at: usize) -> usize
-    requires { ⌜ at ≤ 4096 ⌝ }
-    ensures { λ r. ⌜ r ≡ upidPlace (now (s .entry)) at ⌝ }
-{
-    let after = after_components(s, at);
-    // segmentation_duration_flag
-    if bits::flag(s, 8 * (at + 5) + 1) {
-        after + 5
-    } else {
-        after
-    }
 }

@@ -1,10 +1,10 @@
--- `descriptor_reading::segmentation::after_components` meets its contract: none, or so many of six bytes each.
+-- `segmentation_reading::after_components` meets its contract: none, or so many of six bytes each.
 -- Assumes nothing.
 use mathlib.Core.Path.{sym, _∙_}
 use native.Mathlib.Omega.{arith}
 use borrow.Author.Needs.{needs}
-use Rattle.descriptor_reading.proofs.segmentation.after_components.Statement.{statement}
-use Rattle.descriptor_reading.proofs.segmentation.after_components.Tie as tie
+use Rattle.segmentation_reading.proofs.after_components.Statement.{statement}
+use Rattle.segmentation_reading.proofs.after_components.Tie as tie
 
 add-flag : tie.Need-add-flag
 add-flag c = search needs

@@ -1,4 +1,4 @@
--- `descriptor_reading::segmentation::segmentation` meets its contract: the id alone, or each part by its place.
+-- `segmentation_reading::uncancelled` meets its contract: each part by its place.
 -- Assumes nothing.
 use mathlib.Core.Path.{_≡_, sym, ap, ap₂, _∙_}
 use mathlib.Core.List.{List}
@@ -6,35 +6,19 @@ use Prim.Native.Nat.{ℕ, _+_, _*_, _≤_, _<_}
 use native.Mathlib.Omega.{arith}
 use Rattle.bits.specs.Bits.{fieldOf}
 use Rattle.bits.proofs.Fields.{field-lt}
-use Rattle.descriptor_reading.specs.declared.answers.Descriptor.{Descriptor}
-use Rattle.descriptor_reading.specs.Descriptor.{eventId}
-use Rattle.descriptor_reading.specs.Places.{upidPlace, afterUpid, subSegmentsAt, segmentationAt}
-use Rattle.descriptor_reading.proofs.Room.{upid-room}
+use Rattle.segmentation_reading.specs.Places.{eventId, upidPlace, afterUpid, subSegmentsAt, uncancelledAt}
+use Rattle.segmentation_reading.proofs.Room.{upid-room}
 use borrow.Author.Needs.{needs}
-use Rattle.descriptor_reading.proofs.segmentation.segmentation.Statement.{statement}
-use Rattle.descriptor_reading.proofs.segmentation.segmentation.Tie as tie
+use Rattle.segmentation_reading.proofs.uncancelled.Statement.{statement}
+use Rattle.segmentation_reading.proofs.uncancelled.Tie as tie
 
 quad-requires : tie.Need-quad-requires
 quad-requires c κs = search needs
 
-cast-t14 : tie.Need-cast-t14
-cast-t14 c =
+cast-t15 : tie.Need-cast-t15
+cast-t15 c =
     let a = c .before .before .args in
     omega (arith, c .quad .ensures, field-lt (a .s .now) (8 * a .at) 32)
-
-add-flag : tie.Need-add-flag
-add-flag c = search needs
-
-mul-flag : tie.Need-mul-flag
-mul-flag c = search needs
-
-flag-requires : tie.Need-flag-requires
-flag-requires c κs = search needs
-
-returns : tie.Need-returns
-unfolding segmentationAt
-returns c =
-    rw (sym (c .before .flag .ensures) ∙ c .if1 .taken) (ap (λ (x : ℕ). Descriptor.CancelledSegmentation (eventId x)) (c .before .before .quad .ensures))
 
 mode-requires : tie.Need-mode-requires
 mode-requires c κs = search needs
@@ -49,14 +33,14 @@ upid-place-requires : tie.Need-upid-place-requires
 upid-place-requires c κs = search needs
 
 -- the UPID and what follows it stand near
-upid-near : (c : tie.After-upid-place) → c .upid-place .result ≤ 5638
+upid-near : (c : tie.After-upid-place) → c .upid-place .result ≤ 67077
 upid-near c =
-    let a = c .before .before .before .before .before .before .before .before .args in
+    let a = c .before .before .before .before .before .before .args in
     omega (arith, c .upid-place .ensures, upid-room (a .s .now) (a .at))
 
 upid-short : (c : tie.After-octet) → c .octet .result < 256
 upid-short c =
-    let a = c .before .before .before .before .before .before .before .before .before .args in
+    let a = c .before .before .before .before .before .before .before .args in
     omega (arith, c .octet .ensures, field-lt (a .s .now) (8 * (c .before .upid-place .result + 1)) 8)
 
 add-octet : tie.Need-add-octet
@@ -98,23 +82,21 @@ add-octet-3 c = omega (arith, upid-near (c .before .before .before .before .befo
 octet-requires-5 : tie.Need-octet-requires-5
 octet-requires-5 c κs = search needs
 
-returns-2 : tie.Need-returns-2
-unfolding segmentationAt
-returns-2 c =
+returns : tie.Need-returns
+unfolding uncancelledAt
+returns c =
     let o = c .before .before .before .before .before in
     let m = o .before .before .before .before in
-    let a = m .before .before .before .before .before .args in
+    let a = m .before .before .before .args in
     let s : List ℕ = a .s .now in
     let upid : o .before .upid-place .result ≡ upidPlace s (a .at) = o .before .upid-place .ensures in
     let long : o .octet .result ≡ fieldOf s (8 * (upidPlace s (a .at) + 1)) 8 = o .octet .ensures ∙ ap (λ (x : ℕ). fieldOf s (8 * (x + 1)) 8) upid in
     let after : o .before .upid-place .result + 2 + o .octet .result ≡ afterUpid s (upidPlace s (a .at)) = omega (arith, upid, long) in
     let type : c .before .before .before .before .octet2 .result ≡ fieldOf s (8 * afterUpid s (upidPlace s (a .at))) 8 =
     c .before .before .before .before .octet2 .ensures ∙ ap (λ (x : ℕ). fieldOf s (8 * x) 8) after in
-    rw (sym (m .before .before .flag .ensures) ∙ m .before .if1 .left)
-    (λ i.
-    Descriptor.Segmentation
-    (record {
-      «segmentation_event_id» = eventId (m .before .before .before .quad .ensures i);
+    λ i.
+    record {
+      «segmentation_event_id» = eventId (m .before .quad .ensures i);
       mode = m .mode .ensures i;
       delivery = o .before .before .before .delivery .ensures i;
       duration = o .before .before .duration .ensures i;
@@ -124,18 +106,14 @@ returns-2 c =
       «segment_num» = (c .before .octet4 .ensures ∙ ap (λ (x : ℕ). fieldOf s (8 * (x + 1)) 8) after) i;
       «segments_expected» = (c .octet5 .ensures ∙ ap (λ (x : ℕ). fieldOf s (8 * (x + 2)) 8) after) i;
       «sub_segments» = (c .before .before .before .sub-segments .ensures ∙ ap₂ (λ (x y : ℕ). subSegmentsAt s x (y + 3) (a .end)) type after) i;
-    }))
+    }
 
-pub segmentation-spec : {M : Type 1} → statement M
-segmentation-spec =
+pub uncancelled-spec : {M : Type 1} → statement M
+uncancelled-spec =
     tie.close
     (tie.spec
     quad-requires
-    cast-t14
-    add-flag
-    mul-flag
-    flag-requires
-    returns
+    cast-t15
     mode-requires
     delivery-requires
     duration-requires
@@ -153,4 +131,4 @@ segmentation-spec =
     octet-requires-4
     add-octet-3
     octet-requires-5
-    returns-2)
+    returns)

@@ -1,13 +1,13 @@
--- `descriptor_reading::segmentation::delivery` meets its contract: the flag, and the four restrictions behind it.
+-- `segmentation_reading::delivery` meets its contract: the flag, and the four restrictions behind it.
 -- Assumes nothing.
 use mathlib.Core.Path.{sym, _∙_}
 use native.Mathlib.Omega.{arith}
 use Prim.Native.Nat.{_+_, _*_}
 use Rattle.bits.proofs.Fields.{field-lt}
-use Rattle.descriptor_reading.specs.declared.answers.Delivery.{Delivery}
+use Rattle.segmentation_reading.specs.declared.answers.Delivery.{Delivery}
 use borrow.Author.Needs.{needs}
-use Rattle.descriptor_reading.proofs.segmentation.delivery.Statement.{statement}
-use Rattle.descriptor_reading.proofs.segmentation.delivery.Tie as tie
+use Rattle.segmentation_reading.proofs.delivery.Statement.{statement}
+use Rattle.segmentation_reading.proofs.delivery.Tie as tie
 
 add-flags : tie.Need-add-flags
 add-flags c = search needs

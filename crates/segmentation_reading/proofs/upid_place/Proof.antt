@@ -1,12 +1,12 @@
--- `descriptor_reading::segmentation::upid_place` meets its contract: after the components, and five bytes on where there is a duration.
+-- `segmentation_reading::upid_place` meets its contract: after the components, and five bytes on where there is a duration.
 -- Assumes nothing.
 use mathlib.Core.Path.{sym, _∙_}
 use native.Mathlib.Omega.{arith}
-use Rattle.descriptor_reading.specs.Places.{upidPlace}
-use Rattle.descriptor_reading.proofs.Room.{after-room}
+use Rattle.segmentation_reading.specs.Places.{upidPlace}
+use Rattle.segmentation_reading.proofs.Room.{after-room}
 use borrow.Author.Needs.{needs}
-use Rattle.descriptor_reading.proofs.segmentation.upid_place.Statement.{statement}
-use Rattle.descriptor_reading.proofs.segmentation.upid_place.Tie as tie
+use Rattle.segmentation_reading.proofs.upid_place.Statement.{statement}
+use Rattle.segmentation_reading.proofs.upid_place.Tie as tie
 
 after-components-requires : tie.Need-after-components-requires
 after-components-requires c κs = search needs

@@ -1,10 +1,10 @@
--- `descriptor_reading::segmentation::mode` meets its contract: the flag, and the count behind it.
+-- `segmentation_reading::mode` meets its contract: the flag, and the count behind it.
 -- Assumes nothing.
 use mathlib.Core.Path.{sym, ap, _∙_}
-use Rattle.descriptor_reading.specs.declared.answers.Mode.{Mode}
+use Rattle.segmentation_reading.specs.declared.answers.Mode.{Mode}
 use borrow.Author.Needs.{needs}
-use Rattle.descriptor_reading.proofs.segmentation.mode.Statement.{statement}
-use Rattle.descriptor_reading.proofs.segmentation.mode.Tie as tie
+use Rattle.segmentation_reading.proofs.mode.Statement.{statement}
+use Rattle.segmentation_reading.proofs.mode.Tie as tie
 
 add-flag : tie.Need-add-flag
 add-flag c = search needs

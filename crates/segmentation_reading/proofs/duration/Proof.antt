@@ -1,15 +1,15 @@
--- `descriptor_reading::segmentation::duration` meets its contract: 40 bits after the components, where the flag is set.
+-- `segmentation_reading::duration` meets its contract: 40 bits after the components, where the flag is set.
 -- Assumes nothing.
 use mathlib.Core.Path.{sym, ap, _∙_}
 use native.Mathlib.Omega.{arith}
 use Prim.Native.Nat.{ℕ, _*_}
 use Rattle.bits.specs.Bits.{fieldOf}
 use Rattle.units.specs.Clock.{ticks}
-use Rattle.descriptor_reading.specs.declared.answers.Duration.{Duration}
-use Rattle.descriptor_reading.proofs.Room.{after-room}
+use Rattle.segmentation_reading.specs.declared.answers.Duration.{Duration}
+use Rattle.segmentation_reading.proofs.Room.{after-room}
 use borrow.Author.Needs.{needs}
-use Rattle.descriptor_reading.proofs.segmentation.duration.Statement.{statement}
-use Rattle.descriptor_reading.proofs.segmentation.duration.Tie as tie
+use Rattle.segmentation_reading.proofs.duration.Statement.{statement}
+use Rattle.segmentation_reading.proofs.duration.Tie as tie
 
 add-flag : tie.Need-add-flag
 add-flag c = search needs

@@ -1,11 +1,11 @@
--- `descriptor_reading::segmentation::sub_segments` meets its contract: two bytes, where the type may have them and the descriptor goes on.
+-- `segmentation_reading::sub_segments` meets its contract: two bytes, where the type may have them and the descriptor goes on.
 -- Assumes nothing.
 use mathlib.Core.Path.{sym, _∙_}
 use borrow.Author.Tests.{not-true, not-false, le-ltb, lt-ltb}
-use Rattle.descriptor_reading.specs.declared.answers.SubSegments.{SubSegments}
+use Rattle.segmentation_reading.specs.declared.answers.SubSegments.{SubSegments}
 use borrow.Author.Needs.{needs}
-use Rattle.descriptor_reading.proofs.segmentation.sub_segments.Statement.{statement}
-use Rattle.descriptor_reading.proofs.segmentation.sub_segments.Tie as tie
+use Rattle.segmentation_reading.proofs.sub_segments.Statement.{statement}
+use Rattle.segmentation_reading.proofs.sub_segments.Tie as tie
 
 is-sub-segmented-requires : tie.Need-is-sub-segmented-requires
 is-sub-segmented-requires c κs = search needs

@@ -6,7 +6,7 @@ use Prim.Native.Nat.{ℕ, _+_, _*_, _≤_, _<_}
 use native.Mathlib.Omega.{arith}
 use Rattle.bits.specs.Bits.{fieldOf, flagOf}
 use Rattle.bits.proofs.Fields.{field-lt}
-use Rattle.descriptor_reading.specs.Places.{afterComponents, upidPlace}
+use Rattle.segmentation_reading.specs.Places.{afterComponents, upidPlace}
 
 pub after-room : (s : List ℕ) (at : ℕ) → afterComponents s at ≤ at + 1537
 after-room s at = go (flagOf s (8 * (at + 5))) (field-lt s (8 * (at + 6)) 8)
