@@ -7,7 +7,7 @@ use mathlib.Core.List.{List, [], _∷_, _++_}
 use Prim.Native.Nat.{ℕ, zero, suc, _+_, _-_, _*_, _≤_, _<_}
 use native.Mathlib.Nat.{add-zero}
 use native.Mathlib.Omega.{arith}
-use lib.ListN.{length, set, length-append, length-set}
+use lib.ListN.{length, set, length-append}
 use lib.Dec.{leb, ltb, eqb}
 use borrow.Author.Tests.{le-leb, ltb-true, lt-ltb}
 use Rattle.bits.specs.Bits.{num}
@@ -16,7 +16,8 @@ use Rattle.grammar.specs.Meaning.{Env, valueOf, widthOf, width, values, bind, b
 use Rattle.grammar.specs.Traces.{Trace, rowsOf, size}
 use Rattle.grammar.proofs.Ends.{Gives, breaks, gives, given, when-gives, after-gives, then-gives, numbered-gives}
 use Rattle.grammar.proofs.Traces.{size-append, size-values}
-use Rattle.layout.specs.Layout.{Source, Plan, total, put, advance, laid, widthsOf, names, timesOn, sweepOn, walk}
+use Rattle.fields.proofs.Room.{length-put}
+use Rattle.fields.specs.Fields.{Source, Plan, total, put, advance, laid, widthsOf, names, timesOn, sweepOn, walk}
 
 -- ---- widths
 
@@ -44,10 +45,6 @@ length-widths [] = refl
 length-widths (x ∷ t) = ap suc (length-widths t)
 
 -- ---- memory
-
-pub length-put : (m : List ℕ) (i : ℕ) (ws : List ℕ) → length (put m i ws) ≡ length m
-length-put m i [] = refl
-length-put m i (w ∷ ws) = length-put (set m i w) (i + 1) ws ∙ length-set m i w
 
 pub put-append : (m : List ℕ) (i : ℕ) (u v : List ℕ) → put m i (u ++ v) ≡ put (put m i u) (i + length u) v
 put-append m i [] v = ap (λ (k : ℕ). put m k v) (sym (add-zero i))

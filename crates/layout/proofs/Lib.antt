@@ -1,9 +1,3 @@
-pub mod Lays
-pub mod Counts
-pub mod Flags
-pub mod Descents
-pub mod Sweeps
-pub mod Types
 pub mod Follows
 pub mod Shape
 pub mod Planned

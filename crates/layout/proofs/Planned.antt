@@ -20,8 +20,10 @@ use Rattle.grammar.proofs.Endless.{endless}
 use Rattle.grammar.proofs.Ends.{Gives, gives, given, when-gives, then-gives, after-gives, covers, ends-within}
 use Rattle.grammar.proofs.Readings.{Reads, rows-parts, arm-parts, under-parts}
 use Rattle.grammar.proofs.Scope.{Agree, scoped, same-read}
-use Rattle.layout.specs.Layout.{Source, source, Plan, total, put, advance, laid, names, timesOn, walk, headerWidths, begun, opening, left, rest, planOf}
-use Rattle.layout.proofs.Follows.{traceWidths, widths-append, length-widths, total-size, length-put, advance-append, advance-none, laid-all, Tells, tells-parts, lays-trace}
+use Rattle.fields.proofs.Room.{length-put}
+use Rattle.fields.specs.Fields.{Source, source, Plan, total, put, advance, laid, names, timesOn, walk}
+use Rattle.layout.specs.Layout.{headerWidths, begun, opening, left, rest, planOf}
+use Rattle.layout.proofs.Follows.{traceWidths, widths-append, length-widths, total-size, advance-append, advance-none, laid-all, Tells, tells-parts, lays-trace}
 use Rattle.layout.proofs.Shape.{any-end}
 
 -- ---- bytes to the end

@@ -16,25 +16,10 @@ use Rattle.grammar.specs.Traces.{Trace, rowsOf, size}
 use Rattle.grammar.specs.Tables.{splice-info-section, payload, sized-command, command, splice-schedule, schedule-event, schedule-times, avails, break-duration, avail-numbers, splice-insert, insert-times, insert-component, splice-time, private-command, descriptor-loop, splice-descriptor, known-descriptor, avail-descriptor, dtmf-descriptor, segmentation-descriptor, delivery, segmentation-components, segmentation-end, time-descriptor, audio-descriptor}
 use Rattle.grammar.proofs.Endless.{asksNoEnd, endless, same-test}
 use Rattle.grammar.proofs.Ends.{Gives, breaks, gives, given, when-gives, after-gives, then-gives, numbered-gives}
-use Rattle.layout.specs.Layout.{Source, Plan, laid, widthsOf, names, timesOn, walk}
+use Rattle.fields.proofs.Room.{narrow, slim}
+use Rattle.fields.specs.Fields.{Source, Plan, laid, widthsOf, names, timesOn, walk}
 
 -- ---- the widths
-
-abbrev pub narrow : List Item → Bool
-narrow [] = true
-narrow (i ∷ rows) = leb 1 (widthOf i) && (leb (widthOf i) 48 && narrow rows)
-
--- each of its fields has 1 to 48 bits
-unfoldable pub slim : Prog → Bool
-slim done = true
-slim stop = true
-slim (fields rows p) = narrow rows && slim p
-slim (branch t a b p) = slim a && (slim b && slim p)
-slim (call a p) = slim a && slim p
-slim (repeat n a p) = slim a && slim p
-slim (frame n a p) = slim a && slim p
-slim (fill a p) = slim a && slim p
-slim (under n a p) = slim a && slim p
 
 abbrev pub Thin : Trace → Type 0
 Thin [] = Unit {0}
@@ -121,6 +106,14 @@ thin-length (x ∷ t) h = omega (arith, h .0, thin-length t (h .2))
 section-slim : slim splice-info-section ≡ true
 unfolding slim splice-info-section payload sized-command command splice-schedule schedule-event schedule-times avails break-duration avail-numbers splice-insert insert-times insert-component splice-time private-command descriptor-loop splice-descriptor known-descriptor avail-descriptor dtmf-descriptor segmentation-descriptor delivery segmentation-components segmentation-end time-descriptor audio-descriptor
 section-slim = refl
+
+pub command-slim : slim sized-command ≡ true
+unfolding slim sized-command command splice-schedule schedule-event schedule-times avails break-duration avail-numbers splice-insert insert-times insert-component splice-time private-command
+command-slim = refl
+
+pub loop-slim : slim descriptor-loop ≡ true
+unfolding slim descriptor-loop splice-descriptor known-descriptor avail-descriptor dtmf-descriptor segmentation-descriptor delivery segmentation-components segmentation-end time-descriptor audio-descriptor
+loop-slim = refl
 
 pub section-thin : (f : ℕ → ℕ) (end j : ℕ) (t : Trace) → read splice-info-section [] f end 0 ≡ reached j t → Thin t
 section-thin f end j t e = trace-thin splice-info-section section-slim [] f end 0 j t e

@@ -25,7 +25,7 @@ use Rattle.grammar.specs.Meaning.{widthOf, values}
 use Rattle.grammar.specs.Traces.{Trace, rowsOf, size, numbers, spans}
 use Rattle.grammar.proofs.RoundTrip.{trace-decides}
 use Rattle.grammar.proofs.Traces.{fits, size-append, spans-append}
-use Rattle.layout.specs.Layout.{Plan}
+use Rattle.fields.specs.Fields.{Plan}
 use Rattle.layout.proofs.Follows.{traceWidths}
 use Rattle.layout.proofs.Shape.{Thin, thin-append}
 use Rattle.section.specs.Accept.{the}

@@ -12,7 +12,7 @@ use borrow.Author.Tests.{eq-eqb, eqb-true}
 use Rattle.bits.specs.Bits.{readAll}
 use Rattle.bits.proofs.Cases.{is-false, and-left, and-right}
 use Rattle.units.specs.declared.refusals.Refusal.{Refusal}
-use Rattle.layout.specs.declared.Place.{Place}
+use Rattle.fields.specs.declared.Place.{Place}
 use Rattle.section.specs.declared.Verdict.{Verdict}
 use Rattle.section.specs.declared.Verdict.the-variants.{Accepted, Refused}
 use Rattle.section.specs.Accept.{acceptOf}

@@ -12,7 +12,8 @@ use Rattle.crc.specs.Crc.{crc32}
 use Rattle.units.specs.declared.refusals.Written.{Written}
 use Rattle.units.specs.Refusals.{first}
 use Rattle.units.specs.Answers.{answer, memory}
-use Rattle.layout.specs.Layout.{Plan, planOf}
+use Rattle.fields.specs.Fields.{Plan}
+use Rattle.layout.specs.Layout.{planOf}
 use Rattle.section.specs.declared.Verdict.{Verdict}
 use Rattle.section.specs.declared.Verdict.the-variants.{Accepted, Refused}
 use Rattle.section.specs.Accept.{acceptOf}

@@ -16,10 +16,11 @@ use Rattle.bits.proofs.Bytes.{bit-lt}
 use Rattle.bits.proofs.Within.{field-there}
 use Rattle.grammar.specs.Meaning.{widthOf, values}
 use Rattle.grammar.specs.Traces.{Trace, rowsOf, size, numbers, spans}
-use Rattle.layout.specs.declared.Place.{Place}
+use Rattle.fields.specs.declared.Place.{Place}
 use Rattle.section.specs.declared.Verdict.the-variants.{Accepted}
 use Rattle.section.specs.Accept.{acceptOf}
-use Rattle.layout.specs.Layout.{plan, held, source, Plan, total, put, advance, headerWidths, left, planOf}
+use Rattle.fields.specs.Fields.{plan, held, source, Plan, total, put, advance}
+use Rattle.layout.specs.Layout.{headerWidths, left, planOf}
 use Rattle.layout.proofs.Follows.{traceWidths, length-widths, total-size, put-append, Tells}
 use Rattle.layout.proofs.Planned.{Told, start}
 use Rattle.layout.proofs.Shape.{Thin}

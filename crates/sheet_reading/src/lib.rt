@@ -5,7 +5,7 @@ ghost use lib.ListN.{length, take, drop};
 ghost use Rattle.section.specs.declared.Verdict.the-variants.{Accepted};
 ghost use Rattle.section.specs.Accept.{acceptOf};
 ghost use Rattle.bits.specs.Bits.{readAll};
-ghost use Rattle.layout.specs.Layout.{put};
+ghost use Rattle.fields.specs.Fields.{put};
 ghost use Rattle.sheet_reading.specs.SheetOf.{toSheet, toSheetInto};
 use section::Verdict;
 use units::Refusal;

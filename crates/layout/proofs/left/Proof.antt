@@ -7,7 +7,8 @@ use native.Mathlib.Omega.{arith}
 use lib.ListN.{length}
 use borrow.Author.Needs.{needs}
 use borrow.Author.Tests.{eq-eqb, ne-eqb}
-use Rattle.layout.specs.Layout.{Plan, plan, left}
+use Rattle.fields.specs.Fields.{Plan, plan}
+use Rattle.layout.specs.Layout.{left}
 use Rattle.layout.proofs.left.Statement.{statement}
 use Rattle.layout.proofs.left.Tie as tie
 

@@ -4,10 +4,13 @@ use mathlib.Core.Path.{_≡_, refl, sym, ap, ap₂, _∙_}
 use mathlib.Core.Bool.{Bool, cond}
 use mathlib.Core.List.{List, [], _∷_}
 use Prim.Native.Nat.{ℕ, _≤_, _<_}
+use native.Mathlib.Omega.{arith}
 use lib.ListN.{length}
 use lib.Dec.{eqb}
 use borrow.Author.Tests.{eq-eqb, ne-eqb, le-leb, lt-leb}
-use Rattle.layout.specs.Layout.{Plan, source, laid, timesOn, walk, begun, opening, left, rest, planOf}
+use Rattle.fields.specs.Fields.{Plan, source, laid, timesOn, walk, Room}
+use Rattle.fields.proofs.Room.{Has, group-in, groups-in}
+use Rattle.layout.specs.Layout.{begun, opening, left, rest, planOf}
 use Rattle.layout.specs.Layout
 use borrow.Author.Needs.{needs}
 use Rattle.layout.proofs.plan.Statement.{statement}
@@ -38,6 +41,13 @@ module _ (s x m : List ℕ) where
   unfolding planOf
   unsealed l e h q = q ∙ sym (ap₂ all (le-leb (length m) 32768 l) (ne-eqb (source s x 32 5 1) 1 (λ z. h (e ∙ z))))
 
+-- there is room before the header and after it
+at-start : (m : List ℕ) → length m ≤ 32768 → Has (record { at = 12; number = 0; widths = m })
+at-start m h = (omega arith, omega arith, h)
+
+room-group : (c : tie.After-group) → Room (c .group .result) (c .group .last .0)
+room-group c = group-in _ _ refl (at-start (c .before .before .before .before .before .before .before .before .args .widths .now) (c .before .before .before .before .if1 .left)) (c .group .ensures) .1
+
 returns : tie.Need-returns
 returns c =
     let a = c .before .before .before .before .args in
@@ -67,18 +77,18 @@ same-length c = search needs
 returns-2 : tie.Need-returns-2
 unfolding begun
 returns-2 c =
-    let groups = c .before .before .groups in
+    let groups = groups-in _ _ _ refl (room-group (c .before .before .before .before .before .before .before .before .before)) (c .before .before .groups .ensures) .0 in
     let left = c .before .before .before .before .before .left in
     let if2 = c .before .before .before .before .before .before .if2 in
-    let group = c .before .before .before .before .before .before .before .before .before .group in
     let value = c .before .before .before .before .before .before .before .before .before .before .before .before .value in
     let if1 = c .before .before .before .before .before .before .before .before .before .before .before .before .before .if1 in
     let a = c .before .before .before .before .before .before .before .before .before .before .before .before .before .before .before .before .before .args in
-    sealed (a .section .now) (a .sheet .now) (a .widths .now) (if1 .left) (value .ensures .0) (if2 .taken)
-    (ended (a .section .now) (a .sheet .now) (groups .ensures .0) (left .ensures _) (group .ensures .0))
+    let group = group-in _ _ refl (at-start (a .widths .now) (if1 .left)) (c .before .before .before .before .before .before .before .before .before .group .ensures) .0 in
+    sealed (a .section .now) (a .sheet .now) (a .widths .now) (if1 .left) (value .ensures) (if2 .taken)
+    (ended (a .section .now) (a .sheet .now) groups (left .ensures _) group)
 
 opening-requires : tie.Need-opening-requires
-opening-requires c κs = search needs
+opening-requires c κs = room-group (c .before .before .before .before)
 
 left-requires-2 : tie.Need-left-requires-2
 left-requires-2 c κs = search needs
@@ -95,17 +105,17 @@ same-length-2 c = search needs
 returns-3 : tie.Need-returns-3
 unfolding begun
 returns-3 c =
-    let groups2 = c .before .before .groups2 in
     let left2 = c .before .before .before .before .before .left2 in
     let opening = c .before .before .before .before .before .before .before .before .opening in
     let if2 = c .before .before .before .before .before .before .before .before .before .before .if2 in
-    let group = c .before .before .before .before .before .before .before .before .before .before .before .before .before .group in
     let value = c .before .before .before .before .before .before .before .before .before .before .before .before .before .before .before .before .value in
     let if1 = c .before .before .before .before .before .before .before .before .before .before .before .before .before .before .before .before .before .if1 in
     let a = c .before .before .before .before .before .before .before .before .before .before .before .before .before .before .before .before .before .before .before .before .before .args in
+    let group = group-in _ _ refl (at-start (a .widths .now) (if1 .left)) (c .before .before .before .before .before .before .before .before .before .before .before .before .before .group .ensures) .0 in
+    let groups2 = groups-in _ _ _ refl (opening .ensures .1) (c .before .before .groups2 .ensures) .0 in
     let loop = sym (opening .ensures .0 (("splice_command_length", source (a .section .now) (a .sheet .now) 92 10 12) ∷ []) 0 refl .lays) in
-    unsealed (a .section .now) (a .sheet .now) (a .widths .now) (if1 .left) (value .ensures .0) (if2 .left)
-    (ended (a .section .now) (a .sheet .now) (groups2 .ensures .0) (left2 .ensures _) (loop ∙ ap (walk Layout.opening _ _ 0) (group .ensures .0)))
+    unsealed (a .section .now) (a .sheet .now) (a .widths .now) (if1 .left) (value .ensures) (if2 .left)
+    (ended (a .section .now) (a .sheet .now) groups2 (left2 .ensures _) (loop ∙ ap (walk Layout.opening _ _ 0) group))
 
 pub plan-spec : {M : Type 1} → statement M
 plan-spec =

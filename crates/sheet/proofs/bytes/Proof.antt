@@ -7,7 +7,8 @@ use Prim.Native.Nat.{ℕ, _+_, _/_, _≤_}
 use native.Mathlib.Omega.{arith}
 use lib.ListN.{length, take, replicate, length-replicate}
 use borrow.Author.Tests.{le-leb, lt-leb}
-use Rattle.layout.specs.Layout.{Plan, plan, planOf}
+use Rattle.fields.specs.Fields.{Plan, plan}
+use Rattle.layout.specs.Layout.{planOf}
 use Rattle.sheet.specs.Sheet.{roomFor, planFor, lengthFor, filled, summed, sectionOf}
 use Rattle.sheet.proofs.Back.{room-enough}
 use Rattle.sheet.proofs.Rows.{no-fit, fit-made, judged-as}

@@ -7,7 +7,7 @@ use native.Mathlib.Omega.{arith}
 use lib.ListN.{length, take, drop}
 use Rattle.bits.specs.Bits.{readAll}
 use Rattle.units.specs.declared.refusals.Written.the-variants.{Count}
-use Rattle.layout.specs.Layout.{put}
+use Rattle.fields.specs.Fields.{put}
 use Rattle.sheet_reading.proofs.Plans.{Laid, laid-out, sheet-put}
 use Rattle.sheet_reading.proofs.SheetRows.{no-room, sheet-written}
 use borrow.Author.Needs.{needs}

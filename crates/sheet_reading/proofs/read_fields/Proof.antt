@@ -6,7 +6,7 @@ use Prim.Native.Nat.{ℕ, _+_, _-_, _*_, _≤_}
 use native.Mathlib.Omega.{arith}
 use lib.ListN.{length, getD, set, length-set}
 use Rattle.bits.specs.Bits.{readAll}
-use Rattle.layout.specs.Layout.{put}
+use Rattle.fields.specs.Fields.{put}
 use Rattle.sheet_reading.proofs.Spans.{span, span-next, span-none}
 use Rattle.sheet_reading.proofs.read_fields.Statement.{statement}
 use Rattle.sheet_reading.proofs.read_fields.Tie as tie

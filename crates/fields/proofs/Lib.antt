@@ -1,0 +1,7 @@
+pub mod Lays
+pub mod Counts
+pub mod Flags
+pub mod Below
+pub mod Descents
+pub mod Sweeps
+pub mod Room
