@@ -11,7 +11,7 @@ use lib.ListN.{length, getD, List·getD-eq-default}
 use lib.Seq.{ext-getD}
 use Rattle.bits.specs.Bits.{bit, num, run, byteOf, bytesOf}
 use Rattle.bits.proofs.Cases.{le-or-lt}
-use Rattle.bits.proofs.Num.{Bits, num-lt, num-ext}
+use Rattle.bits.proofs.Num.{Bits, num-lt, num-split, num-ext}
 use Rattle.bits.proofs.Digits.{digit-whole, digit-more, bit-of}
 
 -- every element of the list is a byte
@@ -54,6 +54,14 @@ byte-field s i h = byte-whole s i ∙ mod-eq-of-lt h
 pub num-byte : (s : List ℕ) (i n : ℕ) → getD s (i + n) 0 < 256
     → num (bit s) (8 * i) (8 * n + 8) ≡ num (bit s) (8 * i) (8 * n) * 256 + getD s (i + n) 0
 num-byte s i n h = byte-more s i n ∙ ap (λ (x : ℕ). num (bit s) (8 * i) (8 * n) * 256 + x) (mod-eq-of-lt h)
+
+-- the number that two bytes make, and the one that the last twelve of their bits make
+pub num-pair : (s : List ℕ) → AreBytes s → (i : ℕ) → num (bit s) (8 * i) 16 ≡ 256 * getD s i 0 + getD s (i + 1) 0
+num-pair s h i = omega (arith, byte-field s i (h i), num-byte s i 1 (h (i + 1)))
+
+pub num-twelve : (s : List ℕ) → AreBytes s → (i : ℕ) → num (bit s) (8 * i + 4) 12 ≡ getD s i 0 % 16 * 256 + getD s (i + 1) 0
+num-twelve s h i =
+    omega (arith, num-pair s h i, num-split (bit s) (8 * i) 4 12, num-lt (bit s) (bit-lt s) (8 * i + 4) 12, h (i + 1))
 
 -- the number that four bytes make, most significant first
 abbrev pub word : ℕ → ℕ → ℕ → ℕ → ℕ

@@ -1,5 +1,7 @@
 -- `bits::half` meets its contract: four bytes make 32 bits.
 -- Assumes nothing.
+use mathlib.Core.Path.{_≡_, sym, ap₂, _∙_}
+use Prim.Native.Nat.{ℕ, _+_, _*_}
 use borrow.Author.Needs.{needs}
 use native.Mathlib.Omega.{arith}
 use Rattle.bits.proofs.Bytes.{num-word}
@@ -57,10 +59,20 @@ wide-requires-4 c κs = search needs
 add-result-3 : tie.Need-add-result-3
 add-result-3 c = search needs
 
+-- one byte more
+next : {a b x y : ℕ} → a ≡ b → x ≡ y → a * 256 + x ≡ b * 256 + y
+next e f = ap₂ (λ (a x : ℕ). a * 256 + x) e f
+
 returns : tie.Need-returns
 returns c =
-    let entry = c .before .before .before .before .before .before .before .before in
-    (cc (num-word (entry .before .args .s .now) (λ k. entry .shared-slice-known .given k .fits) (entry .before .args .i)), omega arith)
+    let third = c .before .before in
+    let second = third .before .before in
+    let first = second .before .before in
+    let entry = first .before .before in (
+      next (next (next (first .wide .ensures .0) (second .wide2 .ensures .0)) (third .wide3 .ensures .0)) (c .wide4 .ensures .0)
+          ∙ sym (num-word (entry .before .args .s .now) (λ k. entry .shared-slice-known .given k .fits) (entry .before .args .i)),
+      omega arith,
+    )
 
 pub half-spec : {M : Type 1} → statement M
 half-spec =

@@ -1,12 +1,11 @@
 -- `bits::pair` meets its contract: two bytes make 16 bits, and outside the bytes the field is 0.
 -- Assumes nothing.
-use mathlib.Core.Path.{_≡_, sym, ap, ap₂, _∙_}
+use mathlib.Core.Path.{sym, ap₂, _∙_}
+use Prim.Native.Nat.{ℕ, _+_, _*_, _≤_}
 use native.Mathlib.Omega.{arith}
+use lib.Dec.{lit≤}
 use lib.ListN.{length}
-use Prim.Native.Nat.{_+_, _*_, _%_, _≤_}
-use lib.ListN.{getD}
-use Rattle.bits.specs.Bits.{bit, num}
-use Rattle.bits.proofs.Bytes.{byte-field, byte-more}
+use Rattle.bits.proofs.Bytes.{num-pair}
 use Rattle.bits.proofs.Within.{past-end, field-out, field-there}
 use borrow.Author.Needs.{needs}
 use Rattle.bits.proofs.pair.Statement.{statement}
@@ -48,13 +47,12 @@ add-result c = search needs
 
 returns-3 : tie.Need-returns-3
 returns-3 c =
-    let a = c .before .before .before .before .before .before .before .args in
+    let known = c .before in
+    let a = known .before .before .before .before .before .before .args in
     let s = a .s .now in
-    let first : num (bit s) (8 * a .i) 8 ≡ getD s (a .i) 0 = byte-field s (a .i) (c .before .shared-slice-known3 .given (a .i) .fits) in
-    let whole : num (bit s) (8 * a .i) 16 ≡ num (bit s) (8 * a .i) 8 * 256 + getD s (a .i + 1) 0 % 256 = byte-more s (a .i) 1 in
     let inside : 8 * a .i + 16 ≤ 8 * length s = omega arith in
-    omega (arith, c .wide2 .ensures .0, c .before .before .wide .ensures .0, first, whole, c .before .shared-slice-known3 .given (a .i + 1) .fits)
-    ∙ sym (field-there s (8 * a .i) 16 (omega arith) inside)
+    ap₂ (λ (x y : ℕ). 256 * x + y) (known .before .wide .ensures .0) (c .wide2 .ensures .0)
+    ∙ sym (field-there s (8 * a .i) 16 (lit≤ tt) inside ∙ num-pair s (λ k. known .shared-slice-known3 .given k .fits) (a .i))
 
 pub pair-spec : {M : Type 1} → statement M
 pair-spec =

@@ -1,12 +1,11 @@
 -- `bits::twelve` meets its contract: the last 12 of the 16 bits of two bytes, and outside the bytes the field is 0.
 -- Assumes nothing.
-use mathlib.Core.Path.{_≡_, sym, _∙_}
-use Prim.Native.Nat.{_+_, _*_, _%_, _^_, _≤_, _<_}
+use mathlib.Core.Path.{sym, ap₂, _∙_}
+use Prim.Native.Nat.{ℕ, _+_, _*_, _%_, _≤_}
 use native.Mathlib.Omega.{arith}
-use lib.ListN.{length, getD}
-use Rattle.bits.specs.Bits.{bit, num}
-use Rattle.bits.proofs.Num.{num-split, num-lt}
-use Rattle.bits.proofs.Bytes.{bit-lt, byte-field, byte-more}
+use lib.Dec.{lit≤}
+use lib.ListN.{length}
+use Rattle.bits.proofs.Bytes.{num-twelve}
 use Rattle.bits.proofs.Within.{past-end, field-out, field-there}
 use borrow.Author.Needs.{needs}
 use Rattle.bits.proofs.twelve.Statement.{statement}
@@ -48,25 +47,12 @@ add-result c = search needs
 
 returns-3 : tie.Need-returns-3
 returns-3 c =
-    let a = c .before .before .before .before .before .before .before .args in
+    let known = c .before in
+    let a = known .before .before .before .before .before .before .args in
     let s = a .s .now in
-    let first : num (bit s) (8 * a .i) 8 ≡ getD s (a .i) 0 = byte-field s (a .i) (c .before .shared-slice-known3 .given (a .i) .fits) in
-    let whole : num (bit s) (8 * a .i) 16 ≡ num (bit s) (8 * a .i) 8 * 256 + getD s (a .i + 1) 0 % 256 = byte-more s (a .i) 1 in
-    let split : num (bit s) (8 * a .i) 16 ≡ num (bit s) (8 * a .i) 4 * 2 ^ 12 + num (bit s) (8 * a .i + 4) 12 = num-split (bit s) (8 * a .i) 4 12 in
-    let small : num (bit s) (8 * a .i + 4) 12 < 2 ^ 12 = num-lt (bit s) (bit-lt s) (8 * a .i + 4) 12 in
     let inside : 8 * a .i + 4 + 12 ≤ 8 * length s = omega arith in
-    omega (
-      arith,
-      c .wide2 .ensures .0,
-      c .before .before .wide .ensures .0,
-      first,
-      whole,
-      split,
-      small,
-      c .before .shared-slice-known3 .given (a .i) .fits,
-      c .before .shared-slice-known3 .given (a .i + 1) .fits,
-    )
-    ∙ sym (field-there s (8 * a .i + 4) 12 (omega arith) inside)
+    ap₂ (λ (x y : ℕ). x % 16 * 256 + y) (known .before .wide .ensures .0) (c .wide2 .ensures .0)
+    ∙ sym (field-there s (8 * a .i + 4) 12 (lit≤ tt) inside ∙ num-twelve s (λ k. known .shared-slice-known3 .given k .fits) (a .i))
 
 pub twelve-spec : {M : Type 1} → statement M
 twelve-spec =

@@ -11,21 +11,21 @@ next : {a b x y : ℕ} → a ≡ b → x ≡ y → bitXor a x ≡ bitXor b y
 next e f = ap₂ bitXor e f
 
 returns : tie.Need-returns
-returns c6 =
-    let c5 = c6 .before in
-    let c4 = c5 .before in
-    let c3 = c4 .before in
-    let c2 = c3 .before in
-    let c1 = c2 .before in
-    let byte = c1 .before in
+returns at7 =
+    let at6 = at7 .before in
+    let at5 = at6 .before in
+    let at4 = at5 .before in
+    let at3 = at4 .before in
+    let at2 = at3 .before in
+    let byte = at2 .before in
     let start = byte .before in
     next
     (next
     (next
-    (next (next (next (byte .byte-ahead .ensures) (c1 .nibble2 .ensures)) (c2 .nibble3 .ensures)) (c3 .nibble4 .ensures))
-    (c4 .nibble5 .ensures))
-    (c5 .nibble6 .ensures))
-    (c6 .nibble7 .ensures)
+    (next (next (next (byte .byte-ahead .ensures) (at2 .nibble2 .ensures)) (at3 .nibble3 .ensures)) (at4 .nibble4 .ensures))
+    (at5 .nibble5 .ensures))
+    (at6 .nibble6 .ensures))
+    (at7 .nibble7 .ensures)
     ∙ sym (nibbles (start .args .x) (start .fits .x .fits))
 
 pub ahead-spec : {M : Type 1} → statement M
