@@ -12,12 +12,9 @@ use borrow.Author.Tests.{leb-true, le-leb}
 use Rattle.bits.proofs.Cases.{and-left, and-right, by-cases}
 use Rattle.grammar.specs.Syntax.{Item, Prog, done, stop, fields, branch, call, repeat, frame, fill, under}
 use Rattle.grammar.specs.Meaning.{Env, valueOf, widthOf, holds}
-use Rattle.fields.specs.Fields.{Source, Plan, total, put, advance, laid, widthsOf, names, timesOn, sweepOn, walk, bytesTo, roomy, kept, Lays}
+use Rattle.fields.specs.Fields.{Source, Plan, total, put, advance, laid, widthsOf, names, timesOn, sweepOn, walk, bytesTo, roomy, kept, Has, Lays}
 
--- the facts that the test tells
-abbrev pub Has : Plan → Type 0
-Has π = (π .number ≤ length (π .widths)) × (π .at ≤ 104 + 255 * π .number) × (length (π .widths) ≤ 32768)
-
+-- the test and the facts
 pub has-room : (π : Plan) → roomy π ≡ true → Has π
 unfolding roomy
 has-room π e =

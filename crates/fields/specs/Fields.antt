@@ -108,9 +108,13 @@ kept g π = cond (roomy π) (g π) π
 
 -- ---- for private functions
 
--- a place that the memory has room for, and that a machine can count
+-- the facts that `roomy` tests
+abbrev pub Has : Plan → Type 0
+Has π = (π .number ≤ length (π .widths)) × (π .at ≤ 104 + 255 * π .number) × (length (π .widths) ≤ 32768)
+
+-- the same of a place, and the memory beside it
 abbrev pub Room : Place → List ℕ → Type 0
-Room p m = (p .number ≤ length m) × (p .at ≤ 104 + 255 * p .number) × (length m ≤ 32768)
+Room p m = Has (plan p m)
 
 -- p lays out ρ from π on
 pub record Lays (p : Prog) (env : Env) (v : Source) (end : ℕ) (π ρ : Plan) : Type 0 where

@@ -8,8 +8,8 @@ use native.Mathlib.Omega.{arith}
 use lib.ListN.{length}
 use lib.Dec.{eqb}
 use borrow.Author.Tests.{eq-eqb, ne-eqb, le-leb, lt-leb}
-use Rattle.fields.specs.Fields.{Plan, source, laid, timesOn, walk, Room}
-use Rattle.fields.proofs.Room.{Has, group-in, groups-in}
+use Rattle.fields.specs.Fields.{Plan, source, laid, timesOn, walk, Has, Room}
+use Rattle.fields.proofs.Room.{group-in, groups-in}
 use Rattle.layout.specs.Layout.{begun, opening, left, rest, planOf}
 use Rattle.layout.specs.Layout
 use borrow.Author.Needs.{needs}
