@@ -1,1 +1,1 @@
-pub mod Bits
+pub use Rattle.bit_fields.specs.Bits

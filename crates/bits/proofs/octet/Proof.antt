@@ -1,11 +1,11 @@
 -- `bits::octet` meets its contract: a byte that is there makes 8 bits, and outside the bytes the field is 0.
 -- Assumes nothing.
-use mathlib.Core.Path.{_≡_, sym, _∙_}
+use mathlib.Core.Path.{sym, _∙_}
 use native.Mathlib.Omega.{arith}
 use lib.ListN.{length}
 use Prim.Native.Nat.{_+_, _*_, _≤_}
-use Rattle.bits.proofs.Bytes.{byte-field}
-use Rattle.bits.proofs.Within.{past-end, field-out, field-there}
+use Rattle.bit_fields.proofs.Bytes.{byte-field}
+use Rattle.bit_fields.proofs.Within.{past-end, field-out, field-there}
 use borrow.Author.Needs.{needs}
 use Rattle.bits.proofs.octet.Statement.{statement}
 use Rattle.bits.proofs.octet.Tie as tie

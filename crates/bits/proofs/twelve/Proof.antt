@@ -5,8 +5,8 @@ use Prim.Native.Nat.{ℕ, _+_, _*_, _%_, _≤_}
 use native.Mathlib.Omega.{arith}
 use lib.Dec.{lit≤}
 use lib.ListN.{length}
-use Rattle.bits.proofs.Bytes.{num-twelve}
-use Rattle.bits.proofs.Within.{past-end, field-out, field-there}
+use Rattle.bit_fields.proofs.Bytes.{num-twelve}
+use Rattle.bit_fields.proofs.Within.{past-end, field-out, field-there}
 use borrow.Author.Needs.{needs}
 use Rattle.bits.proofs.twelve.Statement.{statement}
 use Rattle.bits.proofs.twelve.Tie as tie
