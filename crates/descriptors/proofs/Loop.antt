@@ -3,7 +3,7 @@
 -- Assumes nothing.
 use mathlib.Core.Path.{_≡_, refl, sym, ap, ap₂, _∙_}
 use mathlib.Core.Bool.{Bool, cond, false≢true}
-use mathlib.Core.List.{List, [], _∷_, _++_, append-nil}
+use mathlib.Core.List.{List, [], _++_, append-nil}
 use Prim.Native.Nat.{ℕ, zero, suc, _-_, _*_, _≤_, _<_}
 use native.Mathlib.Omega.{arith}
 use lib.ListN.{length}
@@ -17,7 +17,6 @@ use Rattle.grammar.specs.Tables.{avail-descriptor, dtmf-descriptor, delivery, s
 use Rattle.grammar.specs.Traces.{traceOf}
 use Rattle.grammar.proofs.Ends.{sweep-over, sweep-more}
 use Rattle.descriptors.specs.declared.Cursor.{Cursor}
-use Rattle.descriptors.specs.declared.Kind.{Kind}
 use Rattle.descriptors.specs.declared.Step.{Step}
 use Rattle.descriptors.specs.declared.Step.the-variants.{Descriptor, Done, Broken}
 use Rattle.descriptors.specs.Walk.{stepOf}

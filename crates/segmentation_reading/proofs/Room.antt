@@ -4,7 +4,7 @@ use mathlib.Core.Bool.{Bool, true, false, cond}
 use mathlib.Core.List.{List}
 use Prim.Native.Nat.{ℕ, _+_, _*_, _≤_, _<_}
 use native.Mathlib.Omega.{arith}
-use Rattle.bits.specs.Bits.{fieldOf, flagOf}
+use Rattle.bits.specs.Bits.{flagOf}
 use Rattle.bits.proofs.Fields.{field-lt}
 use Rattle.segmentation_reading.specs.Places.{afterComponents, upidPlace}
 

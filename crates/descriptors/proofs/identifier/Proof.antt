@@ -1,9 +1,8 @@
 -- `descriptors::identifier` meets its contract: the four bytes are there.
 -- Assumes nothing.
 use mathlib.Core.Path.{_∙_}
-use Prim.Native.Nat.{_+_, _*_}
+use Prim.Native.Nat.{_*_}
 use native.Mathlib.Omega.{arith}
-use lib.ListN.{length}
 use borrow.Author.Needs.{needs}
 use Rattle.bits.proofs.Within.{field-there}
 use Rattle.descriptors.proofs.identifier.Statement.{statement}

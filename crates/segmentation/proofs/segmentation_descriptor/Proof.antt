@@ -2,7 +2,6 @@
 -- Assumes nothing.
 use mathlib.Core.Path.{sym, _∙_}
 use mathlib.Core.List.{[]}
-use native.Mathlib.Omega.{arith}
 use borrow.Author.Needs.{needs}
 use Rattle.segmentation.proofs.Ends.{crossed, too-long, in-bytes}
 use Rattle.segmentation.proofs.segmentation_descriptor.Statement.{statement}
