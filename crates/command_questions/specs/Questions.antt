@@ -11,8 +11,10 @@ use Rattle.command_reading.specs.declared.answers.InsertComponent.{InsertCompon
 use Rattle.command_reading.specs.declared.answers.Event.{Event}
 use Rattle.command_reading.specs.declared.answers.EventComponent.{EventComponent}
 use Rattle.command_reading.specs.declared.answers.PrivateByte.{PrivateByte}
-use Rattle.command_reading.specs.Command.{commandTrace, insertComponentOf, eventOf, eventComponentOf, privateByteOf}
+use Rattle.command_reading.specs.Command.{commandTrace}
 use Rattle.command_reading.specs.Command as Says
+use Rattle.command_lists.specs.Lists.{insertComponentOf, privateByteOf}
+use Rattle.command_events.specs.Events.{eventOf, eventComponentOf}
 
 -- the answer of an open section, with the cursor of its first descriptor, or the refusal of one that cannot be asked
 unfoldable pub asked : {A : Type 0} → Opened → (Refusal → A) → (Cursor → A) → A

@@ -24,7 +24,7 @@ pub fn insert_component(section: &[u8], n: usize) -> InsertComponent
     ensures { λ r. ⌜ r ≡ says.insertComponent (now (section .entry)) n ⌝ }
 {
     match section::open(section) {
-        Opened::Open(_) => command_reading::insert_component(section, n),
+        Opened::Open(_) => command_lists::insert_component(section, n),
         Opened::Refused(refusal) => InsertComponent::Refused(refusal),
     }
 }
@@ -34,7 +34,7 @@ pub fn schedule_event(section: &[u8], n: usize) -> Event
     ensures { λ r. ⌜ r ≡ says.scheduleEvent (now (section .entry)) n ⌝ }
 {
     match section::open(section) {
-        Opened::Open(_) => command_reading::schedule_event(section, n),
+        Opened::Open(_) => command_events::schedule_event(section, n),
         Opened::Refused(refusal) => Event::Refused(refusal),
     }
 }
@@ -44,7 +44,7 @@ pub fn event_component(section: &[u8], n: usize, m: usize) -> EventComponent
     ensures { λ r. ⌜ r ≡ says.eventComponent (now (section .entry)) n m ⌝ }
 {
     match section::open(section) {
-        Opened::Open(_) => command_reading::event_component(section, n, m),
+        Opened::Open(_) => command_events::event_component(section, n, m),
         Opened::Refused(refusal) => EventComponent::Refused(refusal),
     }
 }
@@ -54,7 +54,7 @@ pub fn private_byte(section: &[u8], n: usize) -> PrivateByte
     ensures { λ r. ⌜ r ≡ says.privateByte (now (section .entry)) n ⌝ }
 {
     match section::open(section) {
-        Opened::Open(_) => command_reading::private_byte(section, n),
+        Opened::Open(_) => command_lists::private_byte(section, n),
         Opened::Refused(refusal) => PrivateByte::Refused(refusal),
     }
 }

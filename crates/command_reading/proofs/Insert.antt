@@ -23,7 +23,7 @@ use Rattle.command_reading.specs.Command.{eventId, insertTime, modeOf, a
 use Rattle.command_reading.specs.Places.{insertTimeAt, insertModeAt, insertAt, availsAt}
 use Rattle.command_reading.proofs.Rows.{there, zero-or-one}
 use Rattle.command_reading.proofs.Times.{time-tells}
-use Rattle.command_reading.proofs.Avails.{early, avails-tell, avails-said}
+use Rattle.command_reading.proofs.EventEnd.{early, avails-tell, avails-said}
 
 -- the rows before the insert's flags, and those of the flags
 unfoldable opening : List ℕ → Trace

@@ -1,16 +1,10 @@
 pub mod Table
 pub mod Rows
 pub mod Times
-pub mod Avails
+pub mod EventEnd
 pub mod Insert
 pub mod Private
 pub mod Said
 pub mod Shorter
 pub mod Firsts
-pub mod Component
-pub mod Components
 pub mod Nothing
-pub mod ComponentAt
-pub mod ByteAt
-pub mod Event
-pub mod EventAt

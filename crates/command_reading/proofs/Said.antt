@@ -8,7 +8,7 @@ use lib.ListN.{length}
 use borrow.Author.Tests.{ne-eqb}
 use Rattle.bits.specs.Bits.{bit, num, fieldOf}
 use Rattle.units.specs.declared.refusals.Refusal.{Refusal}
-use Rattle.grammar.specs.Meaning.{Env, values, Reading, broken, reached, read, breach, ends, endOf}
+use Rattle.grammar.specs.Meaning.{Env, values, Reading, broken, reached, read, breach, endOf}
 use Rattle.grammar.specs.Tables.{bytes, private-command, splice-schedule}
 use Rattle.grammar.specs.Traces.{Trace, traceOf}
 use Rattle.grammar.specs.Names.{look, allOf}

@@ -3,8 +3,8 @@
 use Prim.Native.Nat.{ℕ, _-_, _*_}
 use mathlib.Core.Bool.{Bool, cond, _&&_}
 use mathlib.Core.List.{List, [], _∷_, _++_}
-use lib.ListN.{length, getD}
-use lib.Dec.{leb, ltb, eqb}
+use lib.ListN.{length}
+use lib.Dec.{leb, eqb}
 use Rattle.bits.specs.Bits.{bit}
 use Rattle.units.specs.declared.clock.EventId.{EventId}
 use Rattle.units.specs.declared.refusals.Refusal.{Refusal}
@@ -13,7 +13,7 @@ use Rattle.grammar.specs.Syntax.{field}
 use Rattle.grammar.specs.Meaning.{values, Reading, broken, reached, read}
 use Rattle.grammar.specs.Tables.{sized-command}
 use Rattle.grammar.specs.Traces.{Trace, traceOf}
-use Rattle.grammar.specs.Names.{look, isSet, allOf, part}
+use Rattle.grammar.specs.Names.{look, isSet, allOf}
 use Rattle.commands.specs.Command.{known}
 use Rattle.command_reading.specs.declared.answers.SpliceTime.{SpliceTime}
 use Rattle.command_reading.specs.declared.answers.Mode.{Mode}
@@ -21,12 +21,6 @@ use Rattle.command_reading.specs.declared.answers.BreakDuration.{BreakDu
 use Rattle.command_reading.specs.declared.answers.Avails.{Avails}
 use Rattle.command_reading.specs.declared.answers.Insert.{Insert}
 use Rattle.command_reading.specs.declared.answers.Command.{Command}
-use Rattle.command_reading.specs.declared.answers.InsertComponent.{InsertComponent}
-use Rattle.command_reading.specs.declared.answers.EventTime.{EventTime}
-use Rattle.command_reading.specs.declared.answers.ScheduledEvent.{ScheduledEvent}
-use Rattle.command_reading.specs.declared.answers.Event.{Event}
-use Rattle.command_reading.specs.declared.answers.EventComponent.{EventComponent}
-use Rattle.command_reading.specs.declared.answers.PrivateByte.{PrivateByte}
 
 -- ---- the rows of a section's command
 
@@ -114,56 +108,3 @@ whereRead (reached k t) c = c
 -- the section's command; refused, where it breaks its table or its length
 unfoldable pub command : List ℕ → Command
 command s = whereRead (commandReading s) (commandOf (commandTrace s))
-
--- ---- by number
-
--- component n of the insert with the rows t
-unfoldable pub insertComponentOf : Trace → ℕ → InsertComponent
-insertComponentOf t n =
-    cond (isType t 0x05 && ltb n (look t "component_count"))
-    (InsertComponent.Component (look (part "component_tag" n t) "component_tag")
-    (cond (isSet t "splice_immediate_flag") SpliceTime.Immediate (timeOf (part "component_tag" n t))))
-    (InsertComponent.Refused Refusal.NotHere)
-
--- the rows of event n of the schedule with the rows t, none where there is no such event
-abbrev pub eventRows : Trace → ℕ → Trace
-eventRows t n = cond (isType t 0x04 && ltb n (look t "splice_count")) (part "splice_event_id" n t) []
-
-abbrev pub eventTime : Trace → EventTime
-eventTime t =
-    cond (isSet t "program_splice_flag") (EventTime.Program (look t "utc_splice_time")) (EventTime.Components (look t "component_count"))
-
--- the event with the rows t: a cancelled one has its id only
-unfoldable pub scheduledOf : Trace → Event
-scheduledOf t =
-    cond (isSet t "splice_event_cancel_indicator") (Event.Cancelled (eventId (look t "splice_event_id")))
-    (Event.Scheduled
-    (record {
-      «splice_event_id» = eventId (look t "splice_event_id");
-      «out_of_network_indicator» = isSet t "out_of_network_indicator";
-      time = eventTime t;
-      avails = availsOf t;
-    }))
-
--- event n of the schedule with the rows t
-unfoldable pub eventOf : Trace → ℕ → Event
-eventOf t n = cond (isType t 0x04 && ltb n (look t "splice_count")) (scheduledOf (eventRows t n)) (Event.Refused Refusal.NotHere)
-
--- component m of an event with the rows t
-unfoldable pub eventComponentIn : Trace → ℕ → EventComponent
-eventComponentIn t m =
-    cond (ltb m (look t "component_count"))
-    (EventComponent.Component (look (part "component_tag" m t) "component_tag") (look (part "component_tag" m t) "utc_splice_time"))
-    (EventComponent.Refused Refusal.NotHere)
-
--- component m of event n of the schedule with the rows t
-unfoldable pub eventComponentOf : Trace → ℕ → ℕ → EventComponent
-eventComponentOf t n m = eventComponentIn (eventRows t n) m
-
--- the bytes of the private command with the rows t, after its identifier
-abbrev pub privateBytes : Trace → List ℕ
-privateBytes t = cond (isType t 0xFF) (allOf t "private_byte") []
-
--- byte n of them
-unfoldable pub privateByteOf : Trace → ℕ → PrivateByte
-privateByteOf t n = cond (ltb n (length (privateBytes t))) (PrivateByte.Byte (getD (privateBytes t) n 0)) (PrivateByte.Refused Refusal.NotHere)

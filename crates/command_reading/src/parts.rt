@@ -1,6 +1,7 @@
-// The parts of a command, by the byte at which they stand.
+// The parts of a command, by the bytes that hold them.
 ghost use mathlib.Core.Path.{_≡_};
 ghost use Prim.Native.Nat.{_≤_};
+ghost use lib.ListN.{length};
 ghost use Rattle.command_reading.specs.Places.{timeAt, breakAt, availsAt, insertTimeAt, insertModeAt, insertAt};
 use crate::answers::Avails;
 use crate::answers::BreakDuration;
@@ -11,50 +12,47 @@ use crate::answers::SpliceTime;
 use units::EventId;
 use units::Ticks;
 
-// Table 14, from byte `at` on.
-pub(crate) fn splice_time(s: &[u8], at: usize) -> SpliceTime
-    requires { ⌜ at ≤ 4096 ⌝ }
-    ensures { λ r. ⌜ r ≡ timeAt (now (s .entry)) at ⌝ }
+// Table 14, from the first byte on.
+pub fn splice_time(s: &[u8]) -> SpliceTime
+    ensures { λ r. ⌜ r ≡ timeAt (now (s .entry)) 0 ⌝ }
 {
-    if bits::flag(s, 8 * at) {
-        SpliceTime::Given(Ticks(bits::read(s, 8 * at + 7, 33)))
+    if bits::flag(s, 0) {
+        SpliceTime::Given(Ticks(bits::read(s, 7, 33)))
     } else {
         SpliceTime::NotGiven
     }
 }
 
-// Table 15, from byte `at` on.
-fn break_duration(s: &[u8], at: usize, duration_flag: bool) -> BreakDuration
-    requires { ⌜ at ≤ 4096 ⌝ }
-    ensures { λ r. ⌜ r ≡ breakAt (now (s .entry)) at «duration_flag» ⌝ }
+// Table 15, from the first byte on.
+fn break_duration(s: &[u8], duration_flag: bool) -> BreakDuration
+    ensures { λ r. ⌜ r ≡ breakAt (now (s .entry)) 0 «duration_flag» ⌝ }
 {
     if duration_flag {
         BreakDuration::Present {
-            auto_return: bits::flag(s, 8 * at),
-            duration: Ticks(bits::read(s, 8 * at + 7, 33)),
+            auto_return: bits::flag(s, 0),
+            duration: Ticks(bits::read(s, 7, 33)),
         }
     } else {
         BreakDuration::Absent
     }
 }
 
-// Tables 9 and 10, the end of an event, which ends before byte `end`.
-pub(crate) fn avails(s: &[u8], end: usize, duration_flag: bool) -> Avails
-    requires { ⌜ (9 ≤ end) × (end ≤ 4096) ⌝ }
-    ensures { λ r. ⌜ r ≡ availsAt (now (s .entry)) end «duration_flag» ⌝ }
+// Tables 9 and 10, the end of an event, whose last nine bytes stand first.
+pub fn avails(s: &[u8], duration_flag: bool) -> Avails
+    ensures { λ r. ⌜ r ≡ availsAt (now (s .entry)) 9 «duration_flag» ⌝ }
 {
-    let break_duration = break_duration(s, end - 9, duration_flag);
+    let break_duration = break_duration(s, duration_flag);
     Avails {
         break_duration,
-        unique_program_id: bits::pair(s, end - 4) as u16,
-        avail_num: bits::read(s, 8 * (end - 2), 8) as u8,
-        avails_expected: bits::read(s, 8 * (end - 1), 8) as u8,
+        unique_program_id: bits::pair(s, 5) as u16,
+        avail_num: bits::octet(s, 7),
+        avails_expected: bits::octet(s, 8),
     }
 }
 
 // Table 10, the splice insert that stands from byte 14 up to `end`.
 pub(crate) fn insert(s: &[u8], end: usize) -> Command
-    requires { ⌜ (9 ≤ end) × (end ≤ 4096) ⌝ }
+    requires { ⌜ (20 ≤ length (now s)) × (9 ≤ end) × (end ≤ length (now s)) ⌝ }
     ensures { λ r. ⌜ r ≡ insertAt (now (s .entry)) end ⌝ }
 {
     let splice_event_id = EventId(bits::quad(s, 14) as u32);
@@ -64,7 +62,8 @@ pub(crate) fn insert(s: &[u8], end: usize) -> Command
     }
     let time = insert_time(s);
     let mode = insert_mode(s);
-    let avails = avails(s, end, bits::flag(s, 154));
+    let last = end - 9;
+    let avails = avails(&s[last..], bits::flag(s, 154));
     Command::Insert(Insert {
         splice_event_id,
         out_of_network_indicator: bits::flag(s, 152),
@@ -76,6 +75,7 @@ pub(crate) fn insert(s: &[u8], end: usize) -> Command
 
 // When the splice takes place: each component has a time of its own.
 fn insert_time(s: &[u8]) -> SpliceTime
+    requires { ⌜ 20 ≤ length (now s) ⌝ }
     ensures { λ r. ⌜ r ≡ insertTimeAt (now (s .entry)) ⌝ }
 {
     // splice_immediate_flag
@@ -86,7 +86,7 @@ fn insert_time(s: &[u8]) -> SpliceTime
     if !bits::flag(s, 153) {
         return SpliceTime::NotGiven;
     }
-    splice_time(s, 20)
+    splice_time(&s[20..])
 }
 
 fn insert_mode(s: &[u8]) -> Mode

@@ -10,7 +10,9 @@ use Rattle.grammar.specs.Syntax.{Item, field, reserved}
 use Rattle.grammar.specs.Traces.{Trace, blankValue, blank}
 use Rattle.grammar.specs.Names.{Name, isNamed, look, allOf, before, from, opening, part}
 use Rattle.command_reading.specs.declared.answers.Event.{Event}
-use Rattle.command_reading.specs.Command.{commandOf, insertComponentOf, scheduledOf, eventRows, eventOf, eventComponentIn, eventComponentOf, privateByteOf}
+use Rattle.command_reading.specs.Command.{commandOf}
+use Rattle.command_lists.specs.Lists.{insertComponentOf, privateByteOf}
+use Rattle.command_events.specs.Events.{scheduledOf, eventRows, eventOf, eventComponentIn, eventComponentOf}
 use Rattle.descriptor_reading.specs.Descriptor.{segmentationOf, descriptorOf, dtmfCharOf, segmentationComponentOf, audioComponentOf}
 
 -- ---- by name

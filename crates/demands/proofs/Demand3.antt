@@ -27,8 +27,10 @@ use Rattle.command_reading.specs.declared.answers.InsertComponent.{InsertCompon
 use Rattle.command_reading.specs.declared.answers.Event.{Event}
 use Rattle.command_reading.specs.declared.answers.EventComponent.{EventComponent}
 use Rattle.command_reading.specs.declared.answers.PrivateByte.{PrivateByte}
-use Rattle.command_reading.specs.Command.{commandTrace, commandOf, whereRead, insertComponentOf, eventOf, eventComponentOf, privateByteOf}
+use Rattle.command_reading.specs.Command.{commandTrace, commandOf, whereRead}
 use Rattle.command_reading.specs.Command as Commands
+use Rattle.command_lists.specs.Lists.{insertComponentOf, privateByteOf}
+use Rattle.command_events.specs.Events.{eventOf, eventComponentOf}
 use Rattle.descriptor_reading.specs.declared.answers.Descriptor.{Descriptor}
 use Rattle.descriptor_reading.specs.declared.answers.KnownCount.{KnownCount}
 use Rattle.descriptor_reading.specs.declared.answers.DtmfChar.{DtmfChar}

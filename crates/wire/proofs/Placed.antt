@@ -1,14 +1,12 @@
 -- Numbers put into a list from a place on: where there is room for them and where there is none; and, passed on, the laws of what was put.
 -- Assumes nothing.
 pub use Rattle.units.proofs.Put.{told, both, as-long, room, front, front-inside, front-count}
-use mathlib.Core.Path.{_≡_, sym, ap, ap₂, _∙_, subst}
+use mathlib.Core.Path.{_≡_, sym, ap, _∙_}
 use mathlib.Core.Bool.{Bool, true, false, cond}
-use mathlib.Core.List.{List, [], _∷_, _++_}
-use Prim.Native.Nat.{ℕ, suc, _+_, _≤_, _<_}
-use native.Mathlib.Nat.{add-zero}
-use native.Mathlib.Omega.{arith}
-use lib.ListN.{length, set, take, drop, length-append}
-use lib.Seq.{sets, sets-eq, length-sets, length-take-le, take-append-seam}
+use mathlib.Core.List.{List}
+use Prim.Native.Nat.{ℕ, _+_, _≤_, _<_}
+use lib.ListN.{length}
+use lib.Seq.{sets}
 use borrow.Author.Tests.{le-leb, lt-leb}
 use Rattle.wire.specs.Put.{fits, putPlace, putInto, Put}
 

@@ -15,6 +15,7 @@ use Rattle.grammar.proofs.Places.{octet}
 use Rattle.command_reading.specs.declared.answers.Command.{Command}
 use Rattle.command_reading.specs.Command.{commandReading}
 use Rattle.command_reading.proofs.Said.{refused, bounds, null, schedule, insert, signal, reservation, private-rows, private-one, unread}
+use Rattle.command_reading.proofs.Times.{time-from}
 use borrow.Author.Needs.{needs}
 use Rattle.command_reading.proofs.command.Statement.{statement}
 use Rattle.command_reading.proofs.command.Tie as tie
@@ -63,17 +64,30 @@ insert-requires c κs =
     let x = c .before .before .before in
     omega (arith, bounds (section x) (stop x) (trace x) (read-to x))
 
+sub-splice-time : tie.Need-sub-splice-time
+sub-splice-time c =
+    let x = c .before .before .before in
+    omega (arith, bounds (section x) (stop x) (trace x) (read-to x))
+
+part-splice-time-start : tie.Need-part-splice-time-start
+part-splice-time-start c =
+    let x = c .before .before .before in
+    omega (arith, bounds (section x) (stop x) (trace x) (read-to x))
+
+part-splice-time-end : tie.Need-part-splice-time-end
+part-splice-time-end c = search needs
+
 splice-time-requires : tie.Need-splice-time-requires
 splice-time-requires c κs = search needs
 
 quad-requires : tie.Need-quad-requires
 quad-requires c κs = search needs
 
-cast-t13 : tie.Need-cast-t13
-cast-t13 c = omega (arith, field-lt (section (c .before .before .before .before)) 112 32)
+cast-t17 : tie.Need-cast-t17
+cast-t17 c = omega (arith, field-lt (section (c .before .before .before .before)) 112 32)
 
-sub-t14 : tie.Need-sub-t14
-sub-t14 c =
+sub-t18 : tie.Need-sub-t18
+sub-t18 c =
     let x = c .before .before .before .before in
     omega (arith, private-rows (section x) (stop x) (trace x) (read-to x) (type-is (c .before .before) ∙ c .before .match2 .keys6) .long)
 
@@ -95,9 +109,9 @@ returns-4 c =
 
 returns-5 : tie.Need-returns-5
 returns-5 c =
-    let x = c .before .before .before .before in
-    ap Command.TimeSignal (c .splice-time .ensures)
-    ∙ sym (signal (section x) (stop x) (trace x) (read-to x) (type-is (c .before .before) ∙ c .before .match2 .keys4))
+    let x = c .before .before .before .before .before in
+    ap Command.TimeSignal (c .splice-time .ensures ∙ time-from (section x) 14 (omega (arith, bounds (section x) (stop x) (trace x) (read-to x))))
+    ∙ sym (signal (section x) (stop x) (trace x) (read-to x) (type-is (c .before .before .before) ∙ c .before .before .match2 .keys4))
 
 returns-6 : tie.Need-returns-6
 returns-6 c =
@@ -130,10 +144,13 @@ command-spec =
     shared-slice-read-match2
     shared-slice-read-t10
     insert-requires
+    sub-splice-time
+    part-splice-time-start
+    part-splice-time-end
     splice-time-requires
     quad-requires
-    cast-t13
-    sub-t14
+    cast-t17
+    sub-t18
     returns-2
     returns-3
     returns-4

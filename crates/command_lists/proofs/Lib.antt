@@ -1,0 +1,4 @@
+pub mod Component
+pub mod Components
+pub mod ComponentAt
+pub mod ByteAt
