@@ -6,7 +6,7 @@ const DIVISOR: u64 = 0x1_04C1_1DB7;
 /// The CRC of the bytes: most significant bit first, start 0xFFFFFFFF, no final inversion.
 pub fn crc32(bytes: &[u8]) -> u32 {
     // The message, most significant bit first, followed by 32 zeros.
-    let mut dividend: Vec<bool> = Vec::new();
+    let mut dividend: Vec<bool> = Vec::with_capacity(8 * bytes.len() + 32);
     for byte in bytes {
         dividend.extend((0..8).rev().map(|place| byte >> place & 1 == 1));
     }
@@ -23,7 +23,7 @@ pub fn crc32(bytes: &[u8]) -> u32 {
     for front in 0..message_bits {
         let is_one = dividend[front];
         let below = &mut dividend[front..front + 33];
-        for (bit, taken) in below.iter_mut().zip(divisor) {
+        for (bit, taken) in below.iter_mut().zip(&divisor) {
             *bit ^= taken & is_one;
         }
     }

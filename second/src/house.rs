@@ -1,15 +1,18 @@
 //! The house answers: the break, the effective time, the bill label and the first DVB check, for
-//! any bytes. README.md sets out the numbers of every answer, case by case.
+//! any bytes. Each is asked of a section that was taken apart (`section::Apart`), or of its bytes
+//! (`of_bytes`). README.md sets out the numbers of every answer, case by case.
 
 mod break_answer;
 mod dvb;
 mod effective_time;
 mod label;
+mod of_bytes;
 
-pub use break_answer::{break_answer, Break};
-pub use dvb::{dvb, Dvb};
-pub use effective_time::{effective_time, EffectiveTime};
-pub use label::{bill_label, Label};
+pub use break_answer::Break;
+pub use dvb::Dvb;
+pub use effective_time::EffectiveTime;
+pub use label::Label;
+pub use of_bytes::{bill_label, break_answer, dvb, effective_time};
 
 #[cfg(test)]
 mod tests;

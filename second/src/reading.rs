@@ -1,41 +1,34 @@
 //! The typed readings: the command, the known descriptors and the lists inside them, for any bytes.
 //! Every question is refused with rows 1 to 10, then SEALED, then NOTHERE. No answer carries a
-//! reserved bit. README.md sets out the numbers of every answer, case by case.
+//! reserved bit. Each is asked of a section that was taken apart (`section::Apart`), or of its bytes
+//! (`of_bytes`). README.md sets out the numbers of every answer, case by case.
 
 mod command;
 mod descriptor;
 mod entries;
 mod insert;
 mod mode;
+mod of_bytes;
 mod schedule;
 mod segmentation;
 mod time;
 mod upid;
 
-use crate::refusal::{NOTHERE, SEALED};
-use crate::section::{accept, Clear, Inside};
+use crate::refusal::NOTHERE;
 
-pub use command::{command, private_byte, Command};
-pub use descriptor::{
-    audio_component, descriptor, descriptor_count, dtmf_char, AudioComponent, Descriptor,
-};
+pub use command::Command;
+pub use descriptor::{AudioComponent, Descriptor};
 pub use entries::{entries, listing, numbers, Entries, Entry, Reading};
-pub use insert::{insert_component, Insert, InsertComponent};
+pub use insert::{Insert, InsertComponent};
 pub use mode::Mode;
-pub use schedule::{event, event_component, Event, EventComponent, EventMode, ScheduledEvent};
-pub use segmentation::{
-    segmentation_component, DeliveryRestrictions, Segmentation, SegmentationComponent, SubSegments,
+pub use of_bytes::{
+    audio_component, command, descriptor, descriptor_count, dtmf_char, event, event_component,
+    insert_component, private_byte, segmentation_component, upid,
 };
+pub use schedule::{Event, EventComponent, EventMode, ScheduledEvent};
+pub use segmentation::{DeliveryRestrictions, Segmentation, SegmentationComponent, SubSegments};
 pub use time::{BreakDuration, Time};
-pub use upid::{upid, Upid};
-
-/// The inside of a section that is accepted and not sealed.
-fn clear(section: &[u8]) -> Result<Clear, u8> {
-    match accept(section)?.inside {
-        Inside::Clear(clear) => Ok(clear),
-        Inside::Sealed(_) => Err(SEALED),
-    }
-}
+pub use upid::Upid;
 
 /// The thing in a list that has this number. Where there is no such list, its count is 0 (01,
 /// row 16), so an empty list is asked.

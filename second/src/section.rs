@@ -2,6 +2,7 @@
 //! The grammar is 002's tables 5 to 20, 27 and 28; what 01 calls reserved is reserved here.
 
 mod accept;
+mod apart;
 mod command;
 mod cursor;
 mod descriptor;
@@ -12,6 +13,7 @@ mod segmentation;
 mod time;
 
 pub use accept::{accept, LEAST, LEAST_SEALED, LONGEST};
+pub use apart::Apart;
 pub use command::{
     Command, Event, EventComponent, EventSplicing, InsertComponent, PrivateCommand, SpliceInsert,
     SpliceSchedule, Splicing,

@@ -1,7 +1,7 @@
 //! The break answer: whether a section opens a break, and how long that is.
 
 use crate::reading::{Entries, Reading};
-use crate::section::{accept, Body, Clear, Command, Descriptor, Inside, Segment, SpliceInsert};
+use crate::section::{Apart, Body, Clear, Command, Descriptor, Inside, Segment, SpliceInsert};
 
 /// The segmentation types that open a break (003).
 const OPENING_TYPES: [u8; 5] = [0x22, 0x30, 0x32, 0x34, 0x36];
@@ -18,11 +18,13 @@ pub enum Break {
     Unread,
 }
 
-/// The break that a section opens. A sealed section is unread, which is no refusal.
-pub fn break_answer(section: &[u8]) -> Result<Break, u8> {
-    match accept(section)?.inside {
-        Inside::Sealed(_) => Ok(Break::Unread),
-        Inside::Clear(clear) => Ok(Break::of(&clear)),
+impl Apart<'_> {
+    /// The break that a section opens. A sealed section is unread, which is no refusal.
+    pub fn break_answer(&self) -> Result<Break, u8> {
+        match &self.section()?.inside {
+            Inside::Sealed(_) => Ok(Break::Unread),
+            Inside::Clear(clear) => Ok(Break::of(clear)),
+        }
     }
 }
 

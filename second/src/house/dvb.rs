@@ -1,8 +1,7 @@
 //! The first DVB check (001, Table 1): whether the command is one that DVB-DASH allows.
 
 use crate::reading::{Entries, Reading};
-use crate::refusal::SEALED;
-use crate::section::{accept, Inside};
+use crate::section::Apart;
 
 #[derive(Clone, Copy, Debug, PartialEq, Eq)]
 pub enum Dvb {
@@ -10,14 +9,13 @@ pub enum Dvb {
     Yes,
 }
 
-/// Yes exactly for splice_insert() and time_signal(), whatever is in them.
-pub fn dvb(section: &[u8]) -> Result<Dvb, u8> {
-    match accept(section)?.inside {
-        Inside::Sealed(_) => Err(SEALED),
-        Inside::Clear(clear) => Ok(match clear.splice_command_type {
+impl Apart<'_> {
+    /// Yes exactly for splice_insert() and time_signal(), whatever is in them.
+    pub fn dvb(&self) -> Result<Dvb, u8> {
+        Ok(match self.clear()?.splice_command_type {
             0x05 | 0x06 => Dvb::Yes,
             _ => Dvb::No,
-        }),
+        })
     }
 }
 

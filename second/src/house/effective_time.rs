@@ -1,8 +1,7 @@
 //! The effective time: when a section splices, on the clock that pts_adjustment has corrected.
 
 use crate::reading::{Entries, Reading};
-use crate::refusal::SEALED;
-use crate::section::{accept, Command, Inside, SpliceTime};
+use crate::section::{Apart, Command, SpliceTime};
 use crate::units::clock_sum;
 
 #[derive(Clone, Copy, Debug, PartialEq, Eq)]
@@ -11,20 +10,19 @@ pub enum EffectiveTime {
     At { ticks: u64 },
 }
 
-/// pts_time plus pts_adjustment, wrapped at 2^33, where a time signal or an insert of the program
-/// gives a pts_time.
-pub fn effective_time(section: &[u8]) -> Result<EffectiveTime, u8> {
-    let section = accept(section)?;
-    let Inside::Clear(clear) = section.inside else {
-        return Err(SEALED);
-    };
-    let pts_time = splice_time(&clear.command).and_then(|time| time.pts_time);
-    Ok(match pts_time {
-        None => EffectiveTime::None,
-        Some(pts_time) => EffectiveTime::At {
-            ticks: clock_sum(pts_time, section.header.pts_adjustment),
-        },
-    })
+impl Apart<'_> {
+    /// pts_time plus pts_adjustment, wrapped at 2^33, where a time signal or an insert of the program
+    /// gives a pts_time.
+    pub fn effective_time(&self) -> Result<EffectiveTime, u8> {
+        let pts_time = splice_time(&self.clear()?.command).and_then(|time| time.pts_time);
+        let pts_adjustment = self.section()?.header.pts_adjustment;
+        Ok(match pts_time {
+            None => EffectiveTime::None,
+            Some(pts_time) => EffectiveTime::At {
+                ticks: clock_sum(pts_time, pts_adjustment),
+            },
+        })
+    }
 }
 
 /// The splice_time() of the whole program. A cancelled insert has none, nor has one that is

@@ -1,7 +1,7 @@
 //! The bill label: a UPID of the section, or else the house name, each as a part of what was lent.
 
 use crate::reading::{Entries, Reading};
-use crate::section::{accept, Item};
+use crate::section::{Apart, Item};
 
 #[derive(Clone, Copy, Debug, PartialEq, Eq)]
 pub enum Label<'a> {
@@ -11,29 +11,32 @@ pub enum Label<'a> {
     HouseName(&'a [u8]),
 }
 
-/// The UPID of the first uncancelled segmentation descriptor that has one with bytes in it, or the
-/// house name. A section that is refused or sealed has the house name too: this is never a refusal.
-pub fn bill_label<'a>(section: &'a [u8], house_name: &'a [u8]) -> Label<'a> {
-    first_upid(section).unwrap_or(Label::HouseName(house_name))
-}
-
-/// The fields are passed one after another until a UPID comes that has bytes. Cancelled segmentation
-/// descriptors, unknown descriptors and sealed sections have no field of that name.
-fn first_upid(section: &[u8]) -> Option<Label<'_>> {
-    let mut bits = 0;
-    for item in accept(section).ok()?.items() {
-        match item {
-            Item::Bytes("segmentation_upid", upid) if !upid.is_empty() => {
-                let offset = bits / 8;
-                let bytes = &section[offset..offset + upid.len()];
-                return Some(Label::Upid { offset, bytes });
-            }
-            Item::Bytes(_, bytes) => bits += 8 * bytes.len(),
-            Item::Number(_, width, _) => bits += width,
-            Item::Open(_) | Item::Close => {}
-        }
+impl<'a> Apart<'a> {
+    /// The UPID of the first uncancelled segmentation descriptor that has one with bytes in it, or
+    /// the house name. A section that is refused or sealed has the house name too: this is never a
+    /// refusal.
+    pub fn bill_label(&self, house_name: &'a [u8]) -> Label<'a> {
+        self.first_upid().unwrap_or(Label::HouseName(house_name))
     }
-    None
+
+    /// The fields are passed one after another until a UPID comes that has bytes. Cancelled
+    /// segmentation descriptors, unknown descriptors and sealed sections have no field of that name.
+    fn first_upid(&self) -> Option<Label<'a>> {
+        let mut bits = 0;
+        for item in self.section().ok()?.items() {
+            match item {
+                Item::Bytes("segmentation_upid", upid) if !upid.is_empty() => {
+                    let offset = bits / 8;
+                    let bytes = &self.bytes[offset..offset + upid.len()];
+                    return Some(Label::Upid { offset, bytes });
+                }
+                Item::Bytes(_, bytes) => bits += 8 * bytes.len(),
+                Item::Number(_, width, _) => bits += width,
+                Item::Open(_) | Item::Close => {}
+            }
+        }
+        None
+    }
 }
 
 impl<'a> Label<'a> {

@@ -3,9 +3,9 @@
 use super::entries::{Entries, Reading};
 use super::insert::Insert;
 use super::time::Time;
-use super::{at, clear, count};
+use super::{at, count};
 use crate::refusal::NOTHERE;
-use crate::section;
+use crate::section::{self, Apart};
 
 #[derive(Clone, Debug, PartialEq, Eq)]
 pub enum Command {
@@ -28,16 +28,18 @@ pub enum Command {
     Unread,
 }
 
-/// The command.
-pub fn command(section: &[u8]) -> Result<Command, u8> {
-    Ok(Command::of(&clear(section)?.command))
-}
+impl Apart<'_> {
+    /// The command.
+    pub fn command(&self) -> Result<Command, u8> {
+        Ok(Command::of(&self.clear()?.command))
+    }
 
-/// Byte `n` of a private command, behind its identifier.
-pub fn private_byte(section: &[u8], n: u64) -> Result<u8, u8> {
-    match clear(section)?.command {
-        section::Command::Private(private) => at(&private.private_bytes, n).copied(),
-        _ => Err(NOTHERE),
+    /// Byte `n` of a private command, behind its identifier.
+    pub fn private_byte(&self, n: u64) -> Result<u8, u8> {
+        match &self.clear()?.command {
+            section::Command::Private(private) => at(&private.private_bytes, n).copied(),
+            _ => Err(NOTHERE),
+        }
     }
 }
 

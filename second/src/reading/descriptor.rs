@@ -2,9 +2,9 @@
 
 use super::entries::{Entries, Reading};
 use super::segmentation::Segmentation;
-use super::{at, clear, count};
+use super::{at, count};
 use crate::refusal::NOTHERE;
-use crate::section::{self, Body};
+use crate::section::{self, Apart, Body, Clear};
 
 #[derive(Clone, Debug, PartialEq, Eq)]
 pub enum Descriptor {
@@ -39,39 +39,40 @@ pub struct AudioComponent {
     pub full_srvc_audio: bool,
 }
 
-/// How many known descriptors there are.
-pub fn descriptor_count(section: &[u8]) -> Result<u64, u8> {
-    Ok(count(&known(section)?))
-}
-
-/// Known descriptor `n`.
-pub fn descriptor(section: &[u8], n: u64) -> Result<Descriptor, u8> {
-    Descriptor::of(at(&known(section)?, n)?)
-}
-
-/// DTMF character `m` of known descriptor `n`.
-pub fn dtmf_char(section: &[u8], n: u64, m: u64) -> Result<u8, u8> {
-    match at(&known(section)?, n)? {
-        Body::Dtmf { dtmf_chars, .. } => at(dtmf_chars, m).copied(),
-        _ => Err(NOTHERE),
+impl Apart<'_> {
+    /// How many known descriptors there are.
+    pub fn descriptor_count(&self) -> Result<u64, u8> {
+        Ok(count(&known(self.clear()?)))
     }
-}
 
-/// Audio component `m` of known descriptor `n`.
-pub fn audio_component(section: &[u8], n: u64, m: u64) -> Result<AudioComponent, u8> {
-    match at(&known(section)?, n)? {
-        Body::Audio { components, .. } => at(components, m).map(AudioComponent::of),
-        _ => Err(NOTHERE),
+    /// Known descriptor `n`.
+    pub fn descriptor(&self, n: u64) -> Result<Descriptor, u8> {
+        Descriptor::of(at(&known(self.clear()?), n)?)
+    }
+
+    /// DTMF character `m` of known descriptor `n`.
+    pub fn dtmf_char(&self, n: u64, m: u64) -> Result<u8, u8> {
+        match at(&known(self.clear()?), n)? {
+            Body::Dtmf { dtmf_chars, .. } => at(dtmf_chars, m).copied(),
+            _ => Err(NOTHERE),
+        }
+    }
+
+    /// Audio component `m` of known descriptor `n`.
+    pub fn audio_component(&self, n: u64, m: u64) -> Result<AudioComponent, u8> {
+        match at(&known(self.clear()?), n)? {
+            Body::Audio { components, .. } => at(components, m).map(AudioComponent::of),
+            _ => Err(NOTHERE),
+        }
     }
 }
 
 /// The bodies of the known descriptors, in order.
-pub fn known(section: &[u8]) -> Result<Vec<Body>, u8> {
-    let descriptors = clear(section)?.descriptors.into_iter();
-    let bodies = descriptors.map(|descriptor| descriptor.body);
-    Ok(bodies
+pub fn known(clear: &Clear) -> Vec<&Body> {
+    let bodies = clear.descriptors.iter().map(|descriptor| &descriptor.body);
+    bodies
         .filter(|body| !matches!(body, Body::Unknown(_)))
-        .collect())
+        .collect()
 }
 
 impl Descriptor {

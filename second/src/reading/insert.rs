@@ -1,10 +1,10 @@
 //! An insert that is not cancelled, and its components.
 
+use super::at;
 use super::entries::{Entries, Reading};
 use super::mode::Mode;
 use super::time::{BreakDuration, Time};
-use super::{at, clear};
-use crate::section;
+use crate::section::{self, Apart};
 
 #[derive(Clone, Debug, PartialEq, Eq)]
 pub struct Insert {
@@ -25,10 +25,12 @@ pub struct InsertComponent {
     pub time: Time,
 }
 
-/// Component `n` of a component insert.
-pub fn insert_component(section: &[u8], n: u64) -> Result<InsertComponent, u8> {
-    let command = clear(section)?.command;
-    at(components(&command), n).map(InsertComponent::of)
+impl Apart<'_> {
+    /// Component `n` of a component insert.
+    pub fn insert_component(&self, n: u64) -> Result<InsertComponent, u8> {
+        let command = &self.clear()?.command;
+        at(components(command), n).map(InsertComponent::of)
+    }
 }
 
 /// The components of the command, none where it is no component insert.

@@ -2,8 +2,8 @@
 
 use super::entries::{Entries, Reading};
 use super::time::BreakDuration;
-use super::{at, clear, count};
-use crate::section;
+use super::{at, count};
+use crate::section::{self, Apart};
 
 #[derive(Clone, Debug, PartialEq, Eq)]
 pub enum Event {
@@ -35,17 +35,19 @@ pub struct EventComponent {
     pub utc_splice_time: u32,
 }
 
-/// Event `n` of a schedule.
-pub fn event(section: &[u8], n: u64) -> Result<Event, u8> {
-    let command = clear(section)?.command;
-    at(events(&command), n).map(Event::of)
-}
+impl Apart<'_> {
+    /// Event `n` of a schedule.
+    pub fn event(&self, n: u64) -> Result<Event, u8> {
+        let command = &self.clear()?.command;
+        at(events(command), n).map(Event::of)
+    }
 
-/// Component `m` of event `n` of a schedule.
-pub fn event_component(section: &[u8], n: u64, m: u64) -> Result<EventComponent, u8> {
-    let command = clear(section)?.command;
-    let event = at(events(&command), n)?;
-    at(components(event), m).map(EventComponent::of)
+    /// Component `m` of event `n` of a schedule.
+    pub fn event_component(&self, n: u64, m: u64) -> Result<EventComponent, u8> {
+        let command = &self.clear()?.command;
+        let event = at(events(command), n)?;
+        at(components(event), m).map(EventComponent::of)
+    }
 }
 
 /// The events of the command, none where it is no schedule.

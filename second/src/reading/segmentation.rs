@@ -5,7 +5,7 @@ use super::entries::{Entries, Reading};
 use super::mode::Mode;
 use super::{at, count};
 use crate::refusal::NOTHERE;
-use crate::section::{self, Body, Delivery, Segment};
+use crate::section::{self, Apart, Body, Delivery, Segment};
 
 #[derive(Clone, Debug, PartialEq, Eq)]
 pub struct Segmentation {
@@ -43,12 +43,14 @@ pub struct SegmentationComponent {
     pub pts_offset: u64,
 }
 
-/// Segmentation component `m` of known descriptor `n`.
-pub fn segmentation_component(section: &[u8], n: u64, m: u64) -> Result<SegmentationComponent, u8> {
-    let known = known(section)?;
-    let segment = uncancelled(at(&known, n)?).ok_or(NOTHERE)?;
-    let components = segment.components.as_deref().unwrap_or(&[]);
-    at(components, m).map(SegmentationComponent::of)
+impl Apart<'_> {
+    /// Segmentation component `m` of known descriptor `n`.
+    pub fn segmentation_component(&self, n: u64, m: u64) -> Result<SegmentationComponent, u8> {
+        let known = known(self.clear()?);
+        let segment = uncancelled(at(&known, n)?).ok_or(NOTHERE)?;
+        let components = segment.components.as_deref().unwrap_or(&[]);
+        at(components, m).map(SegmentationComponent::of)
+    }
 }
 
 /// What an uncancelled segmentation descriptor holds behind its event; nothing for any other.

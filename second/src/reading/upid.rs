@@ -5,7 +5,7 @@ use super::descriptor::known;
 use super::entries::{Entries, Reading};
 use super::segmentation::uncancelled;
 use crate::refusal::NOTHERE;
-use crate::section::{accept, Item};
+use crate::section::{Apart, Item, Section};
 
 /// Where the UPID lies, and the bytes that are there. An upid_length of 0 gives no bytes, which is
 /// no refusal.
@@ -16,27 +16,26 @@ pub struct Upid<'a> {
     pub bytes: &'a [u8],
 }
 
-/// The UPID of known descriptor `n`, which must be an uncancelled segmentation descriptor.
-pub fn upid(section: &[u8], n: u64) -> Result<Upid<'_>, u8> {
-    let known = known(section)?;
-    let segment = uncancelled(at(&known, n)?).ok_or(NOTHERE)?;
-    let length = segment.segmentation_upid.len();
-    // Every uncancelled segmentation descriptor has one, if an empty one.
-    let upids_before = known
-        .iter()
-        .take(n as usize)
-        .filter_map(uncancelled)
-        .count();
-    let offset = offset_of_upid(section, upids_before)?;
-    let bytes = &section[offset..offset + length];
-    Ok(Upid { offset, bytes })
+impl<'a> Apart<'a> {
+    /// The UPID of known descriptor `n`, which must be an uncancelled segmentation descriptor.
+    pub fn upid(&self, n: u64) -> Result<Upid<'a>, u8> {
+        let known = known(self.clear()?);
+        let segment = uncancelled(at(&known, n)?).ok_or(NOTHERE)?;
+        let length = segment.segmentation_upid.len();
+        // Every uncancelled segmentation descriptor has one, if an empty one.
+        let before = known.into_iter().take(n as usize);
+        let upids_before = before.filter_map(uncancelled).count();
+        let offset = offset_of_upid(self.section()?, upids_before)?;
+        let bytes = &self.bytes[offset..offset + length];
+        Ok(Upid { offset, bytes })
+    }
 }
 
 /// Where the UPID starts that has so many before it: behind all fields that stand before it.
-fn offset_of_upid(section: &[u8], upids_before: usize) -> Result<usize, u8> {
+fn offset_of_upid(section: &Section, upids_before: usize) -> Result<usize, u8> {
     let mut bits = 0;
     let mut upids_to_pass = upids_before;
-    for item in accept(section)?.items() {
+    for item in section.items() {
         match item {
             Item::Bytes("segmentation_upid", _) if upids_to_pass == 0 => return Ok(bits / 8),
             Item::Bytes("segmentation_upid", bytes) => {

@@ -5,9 +5,8 @@ use crate::built::{partner, unsealed_section, with_crc, Partner, CHANGES};
 use crate::counts::Counts;
 use crate::fields::fields;
 use crate::random;
-use second::house::{bill_label, break_answer, dvb, effective_time};
-use second::reading::{self, numbers, Reading};
-use second::section::{accept, Item};
+use second::reading::{numbers, Reading};
+use second::section::{accept, Apart, Item};
 use second::sheet::{related, section_of, sheet_of};
 
 type Answer = Result<Vec<u64>, u8>;
@@ -22,26 +21,27 @@ fn flat_bytes(bytes: &[u8]) -> Answer {
 
 /// Every answer; of a UPID and of the label the bytes, and not where they lie.
 fn all_answers(section: &[u8]) -> Vec<Answer> {
+    let section = &Apart::of(section);
     let mut answers = vec![
-        flat(break_answer(section)),
-        flat(effective_time(section)),
-        flat(dvb(section)),
-        flat_bytes(bill_label(section, b"a house name").bytes()),
-        flat(reading::command(section)),
-        flat(reading::descriptor_count(section)),
+        flat(section.break_answer()),
+        flat(section.effective_time()),
+        flat(section.dvb()),
+        flat_bytes(section.bill_label(b"a house name").bytes()),
+        flat(section.command()),
+        flat(section.descriptor_count()),
     ];
     let to = &mut answers;
-    whole_list(to, |n| flat(reading::insert_component(section, n)));
-    whole_list(to, |n| flat(reading::private_byte(section, n)));
-    for n in 0..whole_list(to, |n| flat(reading::event(section, n))) {
-        whole_list(to, |m| flat(reading::event_component(section, n, m)));
+    whole_list(to, |n| flat(section.insert_component(n)));
+    whole_list(to, |n| flat(section.private_byte(n)));
+    for n in 0..whole_list(to, |n| flat(section.event(n))) {
+        whole_list(to, |m| flat(section.event_component(n, m)));
     }
-    for n in 0..whole_list(to, |n| flat(reading::descriptor(section, n))) {
-        let upid = reading::upid(section, n);
+    for n in 0..whole_list(to, |n| flat(section.descriptor(n))) {
+        let upid = section.upid(n);
         to.push(upid.and_then(|upid| flat_bytes(upid.bytes)));
-        whole_list(to, |m| flat(reading::dtmf_char(section, n, m)));
-        whole_list(to, |m| flat(reading::segmentation_component(section, n, m)));
-        whole_list(to, |m| flat(reading::audio_component(section, n, m)));
+        whole_list(to, |m| flat(section.dtmf_char(n, m)));
+        whole_list(to, |m| flat(section.segmentation_component(n, m)));
+        whole_list(to, |m| flat(section.audio_component(n, m)));
     }
     answers
 }

@@ -3,10 +3,10 @@
 use crate::built::{any_section, cue, unsealed_section, with_crc, Size};
 use crate::counts::Counts;
 use crate::random;
-use second::house::{bill_label, break_answer, dvb, effective_time};
 use second::house::{Break, Dvb, EffectiveTime, Label};
-use second::reading::{self, Command, Descriptor, Mode, Segmentation, Time};
+use second::reading::{Command, Descriptor, Mode, Segmentation, Time};
 use second::refusal::SEALED;
+use second::section::Apart;
 use second::sheet::sheet_of;
 
 const HOUSE: &[u8] = b"a house name";
@@ -15,9 +15,9 @@ const HOUSE: &[u8] = b"a house name";
 const PTS_ADJUSTMENT: usize = 7;
 
 /// The uncancelled segmentation descriptors, with their numbers among the known ones.
-fn segmentations(section: &[u8]) -> Vec<(u64, Segmentation)> {
-    let count = reading::descriptor_count(section).unwrap();
-    let known = (0..count).map(|n| (n, reading::descriptor(section, n).unwrap()));
+fn segmentations(section: &Apart) -> Vec<(u64, Segmentation)> {
+    let count = section.descriptor_count().unwrap();
+    let known = (0..count).map(|n| (n, section.descriptor(n).unwrap()));
     known
         .filter_map(|(n, descriptor)| match descriptor {
             Descriptor::Segmentation(segmentation) => Some((n, segmentation)),
@@ -26,7 +26,7 @@ fn segmentations(section: &[u8]) -> Vec<(u64, Segmentation)> {
         .collect()
 }
 
-fn told_break(section: &[u8], command: &Command) -> Break {
+fn told_break(section: &Apart, command: &Command) -> Break {
     let ticks = match command {
         Command::Unread => return Break::Unread,
         Command::Insert(insert) if insert.out_of_network_indicator => {
@@ -50,7 +50,7 @@ fn told_break(section: &[u8], command: &Command) -> Break {
     ticks.map_or(Break::WithoutMeasure, |ticks| Break::Measured { ticks })
 }
 
-fn told_time(section: &[u8], command: &Command) -> EffectiveTime {
+fn told_time(section: &Apart, command: &Command) -> EffectiveTime {
     let time = match command {
         Command::TimeSignal(time) => *time,
         Command::Insert(insert) if insert.mode == Mode::Program => insert.time,
@@ -59,7 +59,7 @@ fn told_time(section: &[u8], command: &Command) -> EffectiveTime {
     let Time::Given(pts_time) = time else {
         return EffectiveTime::None;
     };
-    let sum = pts_time + sheet_of(section).unwrap()[PTS_ADJUSTMENT];
+    let sum = pts_time + sheet_of(section.bytes).unwrap()[PTS_ADJUSTMENT];
     let ticks = if sum < 1 << 33 { sum } else { sum - (1 << 33) };
     EffectiveTime::At { ticks }
 }
@@ -71,14 +71,14 @@ fn told_dvb(command: &Command) -> Dvb {
     }
 }
 
-fn told_label(section: &[u8]) -> Label<'_> {
+fn told_label<'a>(section: &Apart<'a>) -> Label<'a> {
     let first = segmentations(section)
         .into_iter()
         .find(|(_, segmentation)| segmentation.segmentation_upid_length > 0);
     match first {
         None => Label::HouseName(HOUSE),
         Some((n, _)) => {
-            let upid = reading::upid(section, n).unwrap();
+            let upid = section.upid(n).unwrap();
             Label::Upid {
                 offset: upid.offset,
                 bytes: upid.bytes,
@@ -89,13 +89,14 @@ fn told_label(section: &[u8]) -> Label<'_> {
 
 /// Every house answer of any bytes is what the readings tell, or the refusal that they have.
 fn same_answers(counts: &mut Counts, section: &[u8]) {
-    let label = bill_label(section, HOUSE);
-    match reading::command(section) {
+    let section = &Apart::of(section);
+    let label = section.bill_label(HOUSE);
+    match section.command() {
         Ok(command) => {
             let opened = told_break(section, &command);
-            assert_eq!(break_answer(section), Ok(opened));
-            assert_eq!(effective_time(section), Ok(told_time(section, &command)));
-            assert_eq!(dvb(section), Ok(told_dvb(&command)));
+            assert_eq!(section.break_answer(), Ok(opened));
+            assert_eq!(section.effective_time(), Ok(told_time(section, &command)));
+            assert_eq!(section.dvb(), Ok(told_dvb(&command)));
             assert_eq!(label, told_label(section));
             count(counts, opened, label);
         }
@@ -105,9 +106,9 @@ fn same_answers(counts: &mut Counts, section: &[u8]) {
             } else {
                 Err(refused)
             };
-            assert_eq!(break_answer(section), opened);
-            assert_eq!(effective_time(section), Err(refused));
-            assert_eq!(dvb(section), Err(refused));
+            assert_eq!(section.break_answer(), opened);
+            assert_eq!(section.effective_time(), Err(refused));
+            assert_eq!(section.dvb(), Err(refused));
             assert_eq!(label, Label::HouseName(HOUSE));
             counts.count("refused");
         }

@@ -12,6 +12,7 @@ use crate::support::questions::{
 use crate::support::{Bench, Random};
 use second::hex::to_hex;
 use second::reading::Entry;
+use second::section::Apart;
 use second::sheet::{related, sheet_of};
 
 /// How many pairs are made.
@@ -30,25 +31,6 @@ type Answer = Result<Vec<u64>, u8>;
 /// The function that was asked, and its answer.
 type Said = (&'static str, Answer);
 
-/// How one of the two programs is asked.
-struct Program {
-    name: &'static str,
-    ask: fn(&Question, &mut [u8], &[usize]) -> Answer,
-    house: fn(&mut [u8]) -> Vec<Said>,
-}
-
-const SECOND: Program = Program {
-    name: "second",
-    ask: second,
-    house: house::second,
-};
-
-const PROVED: Program = Program {
-    name: "proved",
-    ask: proved,
-    house: house::proved,
-};
-
 #[test]
 fn partners_have_the_same_answers() {
     let random = &mut Bench::new().random;
@@ -57,11 +39,11 @@ fn partners_have_the_same_answers() {
         let mut section = any_unsealed(random);
         let mut other = partner(random, &section);
         assert_related(&section, &other.bytes);
-        let said = everything(&SECOND, &mut section);
+        let said = said_by_second(&section);
         let same = [
-            (&SECOND, everything(&SECOND, &mut other.bytes)),
-            (&PROVED, everything(&PROVED, &mut section)),
-            (&PROVED, everything(&PROVED, &mut other.bytes)),
+            ("second", said_by_second(&other.bytes)),
+            ("proved", said_by_proved(&mut section)),
+            ("proved", said_by_proved(&mut other.bytes)),
         ];
         for (program, also_said) in same {
             assert_same(program, &said, &also_said, &section, &other);
@@ -86,49 +68,61 @@ fn assert_related(section: &[u8], other: &[u8]) {
     assert!(related(&sheet, &other_sheet));
 }
 
-fn assert_same(program: &Program, said: &[Said], also: &[Said], section: &[u8], other: &Partner) {
+fn assert_same(program: &str, said: &[Said], also: &[Said], section: &[u8], other: &Partner) {
     if said != also {
         let differs = said.iter().zip(also).find(|(one, other)| one != other);
         let counts = (said.len(), also.len());
         panic!(
-            "\nthe {} program says another thing of one of a pair, {counts:?} answers: {differs:?}\n  \
-             one: {}\n  other: {}\n",
-            program.name,
+            "\nthe {program} program says another thing of one of a pair, {counts:?} answers: \
+             {differs:?}\n  one: {}\n  other: {}\n",
             to_hex(section),
             to_hex(&other.bytes)
         );
     }
 }
 
+/// What the second program says of a section, which it takes apart once.
+fn said_by_second(section: &[u8]) -> Vec<Said> {
+    let section = &Apart::of(section);
+    let mut said = everything(|question, at| second(question, section, at));
+    said.extend(house::second(section));
+    said
+}
+
+fn said_by_proved(section: &mut [u8]) -> Vec<Said> {
+    let mut said = everything(|question, at| proved(question, section, at));
+    said.extend(house::proved(section));
+    said
+}
+
 /// Every question with every number that is there and the first past each count.
-fn everything(program: &Program, section: &mut [u8]) -> Vec<Said> {
+fn everything(mut ask: impl FnMut(&Question, &[usize]) -> Answer) -> Vec<Said> {
+    let ask = &mut ask;
     let said = &mut Vec::new();
-    one(said, program, section, &COMMAND, &[]);
-    list(said, program, section, &INSERT_COMPONENT, &[]);
-    list(said, program, section, &PRIVATE_BYTE, &[]);
-    for n in 0..list(said, program, section, &SCHEDULE_EVENT, &[]) {
-        list(said, program, section, &EVENT_COMPONENT, &[n]);
+    one(said, ask, &COMMAND, &[]);
+    list(said, ask, &INSERT_COMPONENT, &[]);
+    list(said, ask, &PRIVATE_BYTE, &[]);
+    for n in 0..list(said, ask, &SCHEDULE_EVENT, &[]) {
+        list(said, ask, &EVENT_COMPONENT, &[n]);
     }
-    one(said, program, section, &KNOWN_COUNT, &[]);
-    for n in 0..list(said, program, section, &KNOWN_DESCRIPTOR, &[]) {
-        one(said, program, section, &UPID, &[n]);
-        list(said, program, section, &DTMF_CHAR, &[n]);
-        list(said, program, section, &SEGMENTATION_COMPONENT, &[n]);
-        list(said, program, section, &AUDIO_COMPONENT, &[n]);
+    one(said, ask, &KNOWN_COUNT, &[]);
+    for n in 0..list(said, ask, &KNOWN_DESCRIPTOR, &[]) {
+        one(said, ask, &UPID, &[n]);
+        list(said, ask, &DTMF_CHAR, &[n]);
+        list(said, ask, &SEGMENTATION_COMPONENT, &[n]);
+        list(said, ask, &AUDIO_COMPONENT, &[n]);
     }
-    said.extend((program.house)(section));
     std::mem::take(said)
 }
 
 /// Says whether there was an answer.
 fn one(
     said: &mut Vec<Said>,
-    program: &Program,
-    section: &mut [u8],
+    ask: &mut impl FnMut(&Question, &[usize]) -> Answer,
     question: &Question,
     at: &[usize],
 ) -> bool {
-    let answer = (program.ask)(question, section, at);
+    let answer = ask(question, at);
     let there = answer.is_ok();
     said.push((question.function, answer));
     there
@@ -137,25 +131,18 @@ fn one(
 /// A list, or the one inside the thing of this number, until nothing is there; says how much was.
 fn list(
     said: &mut Vec<Said>,
-    program: &Program,
-    section: &mut [u8],
+    ask: &mut impl FnMut(&Question, &[usize]) -> Answer,
     question: &Question,
     inside: &[usize],
 ) -> usize {
     let mut count = 0;
-    while one(
-        said,
-        program,
-        section,
-        question,
-        &[inside, &[count]].concat(),
-    ) {
+    while one(said, ask, question, &[inside, &[count]].concat()) {
         count += 1;
     }
     count
 }
 
-fn second(question: &Question, section: &mut [u8], at: &[usize]) -> Answer {
+fn second(question: &Question, section: &Apart, at: &[usize]) -> Answer {
     let at: Vec<u64> = at.iter().map(|number| *number as u64).collect();
     let list = (question.second)(section, &at)?;
     let numbers = list.iter().filter_map(|entry| match entry {
@@ -163,7 +150,7 @@ fn second(question: &Question, section: &mut [u8], at: &[usize]) -> Answer {
         Entry::Value(_, value) => Some(*value),
         Entry::Bytes(..) => None,
     });
-    Ok(without_place(question, section, numbers.collect()))
+    Ok(without_place(question, section.bytes, numbers.collect()))
 }
 
 fn proved(question: &Question, section: &mut [u8], at: &[usize]) -> Answer {
@@ -227,12 +214,12 @@ mod house {
     use super::{part, written, Answer, Said, PLENTY};
     use crate::proved::house as proved_house;
     use crate::support::house::{flat, HOUSE_QUESTIONS};
-    use second::house::bill_label;
+    use second::section::Apart;
 
     const HOUSE_NAME: &[u8] = b"a house name";
 
-    pub fn second(section: &mut [u8]) -> Vec<Said> {
-        let label = bill_label(section, HOUSE_NAME);
+    pub fn second(section: &Apart) -> Vec<Said> {
+        let label = section.bill_label(HOUSE_NAME);
         let bytes = part(label.bytes(), 0, label.bytes().len() as u64);
         let answers = HOUSE_QUESTIONS.iter().map(|question| {
             let listed = (question.second)(section);

@@ -3,42 +3,31 @@
 use crate::built::{any_section, with_crc, Size};
 use crate::random::Random;
 use crate::{flat, random, Answer};
-use second::reading;
-use second::section::{accept, Inside, Item};
+use second::section::{accept, Apart, Inside, Item};
 
 /// The answer to every question with every number, two past each count.
 fn all_answers(section: &[u8]) -> Vec<Answer> {
-    let mut answers = vec![
-        flat(reading::command(section)),
-        flat(reading::descriptor_count(section)),
-    ];
-    every_number(&mut answers, |n| {
-        flat(reading::insert_component(section, n))
-    });
-    every_number(&mut answers, |n| flat(reading::private_byte(section, n)));
-    let events = every_number(&mut answers, |n| flat(reading::event(section, n)));
+    let section = &Apart::of(section);
+    let mut answers = vec![flat(section.command()), flat(section.descriptor_count())];
+    every_number(&mut answers, |n| flat(section.insert_component(n)));
+    every_number(&mut answers, |n| flat(section.private_byte(n)));
+    let events = every_number(&mut answers, |n| flat(section.event(n)));
     for n in 0..events + 3 {
-        every_number(&mut answers, |m| {
-            flat(reading::event_component(section, n, m))
-        });
+        every_number(&mut answers, |m| flat(section.event_component(n, m)));
     }
-    let descriptors = every_number(&mut answers, |n| flat(reading::descriptor(section, n)));
+    let descriptors = every_number(&mut answers, |n| flat(section.descriptor(n)));
     for n in 0..descriptors + 3 {
         answers.push(upid_bytes(section, n));
-        every_number(&mut answers, |m| flat(reading::dtmf_char(section, n, m)));
-        every_number(&mut answers, |m| {
-            flat(reading::segmentation_component(section, n, m))
-        });
-        every_number(&mut answers, |m| {
-            flat(reading::audio_component(section, n, m))
-        });
+        every_number(&mut answers, |m| flat(section.dtmf_char(n, m)));
+        every_number(&mut answers, |m| flat(section.segmentation_component(n, m)));
+        every_number(&mut answers, |m| flat(section.audio_component(n, m)));
     }
     answers
 }
 
 /// Without the place, which may move where the bytes stay.
-fn upid_bytes(section: &[u8], n: u64) -> Answer {
-    let upid = reading::upid(section, n)?;
+fn upid_bytes(section: &Apart, n: u64) -> Answer {
+    let upid = section.upid(n)?;
     Ok(upid.bytes.iter().map(|byte| u64::from(*byte)).collect())
 }
 

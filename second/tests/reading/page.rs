@@ -2,8 +2,8 @@
 
 use crate::built::{any_section, Size};
 use crate::random;
-use second::house;
-use second::reading::{self, entries, Entry, Reading};
+use second::reading::{entries, Entry, Reading};
+use second::section::Apart;
 use std::collections::BTreeSet;
 
 const PAGE: &str = include_str!("../../README.md");
@@ -87,25 +87,26 @@ fn answers_follow_the_table() {
     let met = BTreeSet::new();
     let mut table = Table { rows, met };
     for _ in 0..3_000 {
-        let section = &any_section(random, Size::Short).bytes;
-        table.holds("command", reading::command(section));
-        table.holds("descriptor count", reading::descriptor_count(section));
-        table.holds("break", house::break_answer(section));
-        table.holds("effective time", house::effective_time(section));
-        table.holds("DVB", house::dvb(section));
-        table.holds("label", Ok(house::bill_label(section, b"a house name")));
+        let built = any_section(random, Size::Short);
+        let section = Apart::of(&built.bytes);
+        table.holds("command", section.command());
+        table.holds("descriptor count", section.descriptor_count());
+        table.holds("break", section.break_answer());
+        table.holds("effective time", section.effective_time());
+        table.holds("DVB", section.dvb());
+        table.holds("label", Ok(section.bill_label(b"a house name")));
         for n in 0..3 {
-            table.holds("insert component", reading::insert_component(section, n));
-            table.holds("event", reading::event(section, n));
-            table.holds("private byte", reading::private_byte(section, n));
-            table.holds("descriptor", reading::descriptor(section, n));
-            table.holds("UPID", reading::upid(section, n));
+            table.holds("insert component", section.insert_component(n));
+            table.holds("event", section.event(n));
+            table.holds("private byte", section.private_byte(n));
+            table.holds("descriptor", section.descriptor(n));
+            table.holds("UPID", section.upid(n));
             let m = 0;
-            table.holds("event component", reading::event_component(section, n, m));
-            table.holds("DTMF character", reading::dtmf_char(section, n, m));
-            let component = reading::segmentation_component(section, n, m);
+            table.holds("event component", section.event_component(n, m));
+            table.holds("DTMF character", section.dtmf_char(n, m));
+            let component = section.segmentation_component(n, m);
             table.holds("segmentation component", component);
-            table.holds("audio component", reading::audio_component(section, n, m));
+            table.holds("audio component", section.audio_component(n, m));
         }
     }
     let unmet = (0..table.rows.len()).find(|place| !table.met.contains(place));

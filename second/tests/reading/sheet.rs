@@ -3,8 +3,8 @@
 use crate::random::Random;
 use crate::told::{told, Told, ToldDescriptor};
 use crate::{flat, Answer};
-use second::reading;
 use second::refusal::{NOTHERE, SEALED};
+use second::section::Apart;
 use second::sheet::sheet_of;
 
 /// Every answer of an accepted section is what its sheet tells, or SEALED.
@@ -14,30 +14,32 @@ pub fn same_answers(random: &mut Random, section: &[u8]) -> Option<Told> {
         refused(random, section, SEALED);
         return None;
     };
-    assert_eq!(flat(reading::command(section)), Ok(told.command.clone()));
+    let section = &Apart::of(section);
+    assert_eq!(flat(section.command()), Ok(told.command.clone()));
     same_command_lists(random, section, &told);
     let count = told.descriptors.len() as u64;
-    assert_eq!(reading::descriptor_count(section), Ok(count));
+    assert_eq!(section.descriptor_count(), Ok(count));
     same_descriptors(random, section, &told);
     Some(told)
 }
 
 /// Every question is refused with this number, whatever is asked for.
 pub fn refused(random: &mut Random, section: &[u8], expected: u8) {
+    let section = Apart::of(section);
     let n = random.number_of_any_size() >> random.within(0..=63);
     let m = random.number_of_any_size() >> random.within(0..=63);
     let answers = [
-        flat(reading::command(section)),
-        flat(reading::insert_component(section, n)),
-        flat(reading::event(section, n)),
-        flat(reading::event_component(section, n, m)),
-        flat(reading::private_byte(section, n)),
-        flat(reading::descriptor_count(section)),
-        flat(reading::descriptor(section, n)),
-        flat(reading::dtmf_char(section, n, m)),
-        flat(reading::segmentation_component(section, n, m)),
-        flat(reading::audio_component(section, n, m)),
-        flat(reading::upid(section, n)),
+        flat(section.command()),
+        flat(section.insert_component(n)),
+        flat(section.event(n)),
+        flat(section.event_component(n, m)),
+        flat(section.private_byte(n)),
+        flat(section.descriptor_count()),
+        flat(section.descriptor(n)),
+        flat(section.dtmf_char(n, m)),
+        flat(section.segmentation_component(n, m)),
+        flat(section.audio_component(n, m)),
+        flat(section.upid(n)),
     ];
     let all = answers.iter().all(|answer| *answer == Err(expected));
     assert!(all, "{expected}: {answers:?} for {n} and {m}");
@@ -67,41 +69,39 @@ fn same_lists(random: &mut Random, told: &[Vec<u64>], ask: impl Fn(u64) -> Answe
     }
 }
 
-fn same_command_lists(random: &mut Random, section: &[u8], told: &Told) {
+fn same_command_lists(random: &mut Random, section: &Apart, told: &Told) {
     same_lists(random, &told.insert_components, |n| {
-        flat(reading::insert_component(section, n))
+        flat(section.insert_component(n))
     });
     same_lists(random, &told.private_bytes, |n| {
-        flat(reading::private_byte(section, n))
+        flat(section.private_byte(n))
     });
     let events: Vec<_> = told.events.iter().map(|event| event.list.clone()).collect();
-    same_lists(random, &events, |n| flat(reading::event(section, n)));
+    same_lists(random, &events, |n| flat(section.event(n)));
     for n in numbers_to_ask(random, events.len()) {
         let event = told.events.get(n as usize);
         let components = event.map_or(vec![], |event| event.components.clone());
-        same_lists(random, &components, |m| {
-            flat(reading::event_component(section, n, m))
-        });
+        same_lists(random, &components, |m| flat(section.event_component(n, m)));
     }
 }
 
-fn same_descriptors(random: &mut Random, section: &[u8], told: &Told) {
+fn same_descriptors(random: &mut Random, section: &Apart, told: &Told) {
     for n in numbers_to_ask(random, told.descriptors.len()) {
         let nothing = ToldDescriptor::default();
         let descriptor = told.descriptors.get(n as usize);
         let list = descriptor.map(|descriptor| descriptor.list.clone());
-        assert_eq!(flat(reading::descriptor(section, n)), list.ok_or(NOTHERE));
+        assert_eq!(flat(section.descriptor(n)), list.ok_or(NOTHERE));
         let descriptor = descriptor.unwrap_or(&nothing);
         let upid = descriptor.upid.clone().ok_or(NOTHERE);
-        assert_eq!(flat(reading::upid(section, n)), upid);
+        assert_eq!(flat(section.upid(n)), upid);
         same_lists(random, &descriptor.dtmf_chars, |m| {
-            flat(reading::dtmf_char(section, n, m))
+            flat(section.dtmf_char(n, m))
         });
         same_lists(random, &descriptor.segmentation_components, |m| {
-            flat(reading::segmentation_component(section, n, m))
+            flat(section.segmentation_component(n, m))
         });
         same_lists(random, &descriptor.audio_components, |m| {
-            flat(reading::audio_component(section, n, m))
+            flat(section.audio_component(n, m))
         });
     }
 }

@@ -2,7 +2,7 @@
 
 use crate::built::{any_section, Built, Size};
 use crate::random;
-use second::reading;
+use second::section::Apart;
 
 /// The place of each UPID is where it was put when the section was built, and the part is one of
 /// the very bytes that were lent.
@@ -12,12 +12,11 @@ fn upids_lie_where_they_were_put() {
     let mut met = [0, 0];
     for _ in 0..5_000 {
         let Built { bytes, marks } = any_section(random, Size::Short);
-        let Ok(count) = reading::descriptor_count(&bytes) else {
+        let section = Apart::of(&bytes);
+        let Ok(count) = section.descriptor_count() else {
             continue;
         };
-        let upids: Vec<_> = (0..count)
-            .filter_map(|n| reading::upid(&bytes, n).ok())
-            .collect();
+        let upids: Vec<_> = (0..count).filter_map(|n| section.upid(n).ok()).collect();
         let lengths = marks
             .iter()
             .filter(|mark| mark.name == "segmentation_upid_length");

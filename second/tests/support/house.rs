@@ -9,10 +9,10 @@ use super::Bench;
 use crate::proved::house as proved;
 use second::bits::read_field;
 use second::hex::to_hex;
-use second::house::{self, Label};
+use second::house::Label;
 use second::reading::{entries, numbers, Entry};
 use second::refusal::{self, ROOM, SEALED, SHORT};
-use second::section::{accept, Inside};
+use second::section::{Apart, Inside};
 
 /// More numbers than any answer has.
 const PLENTY: usize = 8;
@@ -23,7 +23,7 @@ pub struct HouseQuestion {
     pub function: &'static str,
     /// The second program's word for it.
     word: &'static str,
-    pub second: fn(&[u8]) -> Listed,
+    pub second: fn(&Apart) -> Listed,
     pub proved: fn(&mut [u8], &mut [u64]) -> u64,
     /// Whether a sealed section is refused.
     sealed: bool,
@@ -32,7 +32,7 @@ pub struct HouseQuestion {
 pub static BREAK: HouseQuestion = HouseQuestion {
     function: "break",
     word: "break",
-    second: |section| house::break_answer(section).map(|answer| entries(&answer)),
+    second: |section| section.break_answer().map(|answer| entries(&answer)),
     proved: proved::break_answer,
     sealed: false,
 };
@@ -40,7 +40,7 @@ pub static BREAK: HouseQuestion = HouseQuestion {
 pub static EFFECTIVE_TIME: HouseQuestion = HouseQuestion {
     function: "effective_time",
     word: "effective-time",
-    second: |section| house::effective_time(section).map(|answer| entries(&answer)),
+    second: |section| section.effective_time().map(|answer| entries(&answer)),
     proved: proved::effective_time,
     sealed: true,
 };
@@ -48,7 +48,7 @@ pub static EFFECTIVE_TIME: HouseQuestion = HouseQuestion {
 pub static DVB: HouseQuestion = HouseQuestion {
     function: "dvb",
     word: "dvb",
-    second: |section| house::dvb(section).map(|answer| entries(&answer)),
+    second: |section| section.dvb().map(|answer| entries(&answer)),
     proved: proved::dvb,
     sealed: true,
 };
@@ -79,7 +79,7 @@ impl Bench {
     pub fn house_answer(
         &mut self,
         question: &HouseQuestion,
-        section: &[u8],
+        section: &Apart,
     ) -> Result<Vec<u64>, u8> {
         let listed = (question.second)(section);
         self.house.count(named(question, section, &listed));
@@ -87,11 +87,11 @@ impl Bench {
         for room in rooms(&mut self.random, &answer, PLENTY) {
             let answer = in_room(&answer, room);
             let pasted = || {
-                let section = to_hex(section);
+                let section = to_hex(section.bytes);
                 format!("second numbers {} '{section}' # room {room}", question.word)
             };
-            let function = question.function;
-            self.same_written(function, section, room, &answer, question.proved, pasted);
+            let (function, bytes) = (question.function, section.bytes);
+            self.same_written(function, bytes, room, &answer, question.proved, pasted);
             if answer == Err(ROOM) {
                 self.house.count(refused(question.function, ROOM));
             }
@@ -101,8 +101,8 @@ impl Bench {
 
     /// The bill label under a house name: which of the two slices it lies in, where, and how long it
     /// is. The house name must stay as it was too.
-    pub fn bill_label(&mut self, section: &[u8], house_name: &[u8]) -> Vec<u64> {
-        let label = house::bill_label(section, house_name);
+    pub fn bill_label(&mut self, section: &Apart, house_name: &[u8]) -> Vec<u64> {
+        let label = section.bill_label(house_name);
         self.house.count(named_label(section, &label));
         let numbers = exported(&label);
         let answer = Ok(numbers.clone());
@@ -111,13 +111,13 @@ impl Bench {
             let mut after = before.clone();
             let answer = in_room(&answer, room);
             let pasted = || {
-                let (section, name) = (to_hex(section), to_hex(house_name));
+                let (section, name) = (to_hex(section.bytes), to_hex(house_name));
                 format!("second numbers label '{section}' '{name}' # room {room}")
             };
             let call = |section: &mut [u8], out: &mut [u64]| {
                 proved::bill_label(section, after.part(), out)
             };
-            self.same_written("bill_label", section, room, &answer, call, pasted);
+            self.same_written("bill_label", section.bytes, room, &answer, call, pasted);
             let written = CountAnswer::of(&answer);
             same_memory("bill_label", written, "house name", &before, &after, pasted);
             if answer == Err(ROOM) {
@@ -129,6 +129,7 @@ impl Bench {
 
     /// Every house question, the label under a random house name, which is empty at times.
     pub fn ask_house(&mut self, section: &[u8]) {
+        let section = &Apart::of(section);
         for question in HOUSE_QUESTIONS {
             // Says nothing by itself; what matters is that both programs say it.
             let _ = self.house_answer(question, section);
@@ -177,7 +178,7 @@ fn refused(function: &str, row: u8) -> String {
 }
 
 /// The name under which an answer is counted.
-fn named(question: &HouseQuestion, section: &[u8], listed: &Listed) -> String {
+fn named(question: &HouseQuestion, section: &Apart, listed: &Listed) -> String {
     match listed.as_deref() {
         Ok([Entry::Case("break", "unread", _)]) if is_sealed(section) => {
             "break: unread, sealed".to_string()
@@ -185,7 +186,7 @@ fn named(question: &HouseQuestion, section: &[u8], listed: &Listed) -> String {
         Ok([Entry::Case("break", "unread", _)]) => "break: unread, a command".to_string(),
         Ok([Entry::Case("break", _, _), Entry::Value(_, 0)]) => "break: measured, 0".to_string(),
         Ok([Entry::Case("effective time", _, _), Entry::Value(_, ticks)])
-            if *ticks < pts_adjustment(section) =>
+            if *ticks < pts_adjustment(section.bytes) =>
         {
             "effective time: given, wrapped".to_string()
         }
@@ -195,8 +196,8 @@ fn named(question: &HouseQuestion, section: &[u8], listed: &Listed) -> String {
     }
 }
 
-fn named_label(section: &[u8], label: &Label) -> String {
-    match (label, accept(section)) {
+fn named_label(section: &Apart, label: &Label) -> String {
+    match (label, section.section()) {
         (Label::Upid { .. }, _) => "label: UPID".to_string(),
         (_, Err(row)) => refused("label: house name,", row),
         (_, Ok(_)) if is_sealed(section) => "label: house name, sealed".to_string(),
@@ -208,6 +209,7 @@ fn pts_adjustment(section: &[u8]) -> u64 {
     read_field(section, 39, 33)
 }
 
-fn is_sealed(section: &[u8]) -> bool {
-    accept(section).is_ok_and(|section| matches!(section.inside, Inside::Sealed(_)))
+fn is_sealed(section: &Apart) -> bool {
+    let section = section.section();
+    section.is_ok_and(|section| matches!(section.inside, Inside::Sealed(_)))
 }

@@ -48,9 +48,9 @@ impl<T: Cell> Lent<T> {
 
     /// A lent part with these cells in it.
     pub fn holding(random: &mut Random, cells: &[T]) -> Lent<T> {
-        let mut lent = Lent::random(random, cells.len());
-        lent.part().copy_from_slice(cells);
-        lent
+        let [before, after] = [(); 2].map(|()| T::random(random, MARGIN));
+        let whole = [&before, cells, &after].concat();
+        Lent { whole }
     }
 
     /// The part that is lent.

@@ -81,7 +81,12 @@ struct Memory {
 impl Bench {
     /// The answer line of a text, where there is so much room.
     pub fn line_in(&mut self, text: &[u8], room: usize) -> Result<Vec<u8>, u8> {
-        let answer = in_room(&Ok(stream::line(text)), room);
+        self.same_line(text, &stream::line(text), room)
+    }
+
+    /// The same where the second program's line is known already.
+    fn same_line(&mut self, text: &[u8], line: &[u8], room: usize) -> Result<Vec<u8>, u8> {
+        let answer = in_room(&Ok(line.to_vec()), room);
         let paste = || format!("second line-hex '{}' # room {room}", to_hex(text));
         self.same_written("line", text, room, &answer, proved::line, paste);
         self.lines.count(named_line(&answer));
@@ -94,7 +99,7 @@ impl Bench {
         let line = stream::line(text);
         for room in rooms(&mut self.random, &Ok(line.clone()), PLENTY) {
             // Says nothing by itself; what matters is that both programs say it.
-            let _ = self.line_in(text, room);
+            let _ = self.same_line(text, &line, room);
         }
         String::from_utf8_lossy(&line).trim_end().to_string()
     }

@@ -3,7 +3,7 @@
 use super::questions::{Listed, Question, QUESTIONS};
 use super::tally::Tally;
 use second::reading::Entry;
-use second::refusal::{self, NOTHERE, ROOM, SEALED, SHORT};
+use second::refusal::{self, NOTHERE, ROOM};
 use std::collections::BTreeMap;
 
 /// What each answer can be: its cases in the order in which they stand, with a `/` between those
@@ -65,21 +65,18 @@ impl Met {
         }
     }
 
-    /// Prints all counts, and ends the test where an answer or a refusal was given less often than
-    /// that.
-    pub fn reached(&self, least: u64) {
+    /// Prints how often each answer was given, and ends the test where one was given less often than
+    /// that, or one that cannot be.
+    pub fn answers_reached(&self, least: u64) {
         println!("{} calls", self.calls);
-        let mut counts = self.answers();
-        counts.extend(
-            QUESTIONS
-                .iter()
-                .flat_map(|question| self.refusals(question)),
-        );
-        for (name, count) in &counts {
-            println!("{count:8} {name}");
+        reached(&self.answers(), least);
+    }
+
+    /// The same for these refusals of each question.
+    pub fn refusals_reached(&self, rows: &[u8], least: u64) {
+        for question in QUESTIONS {
+            reached(&self.refusals(question, rows), least);
         }
-        let rare = counts.iter().find(|(_, count)| *count < least);
-        assert_eq!(rare, None, "this was reached less than {least} times");
     }
 
     /// How often each answer was given that there can be; there is no other.
@@ -94,19 +91,24 @@ impl Met {
         counted.collect()
     }
 
-    /// How often each refusal of a question was given. What takes no numbers is always there.
-    fn refusals(&self, question: &Question) -> Vec<(String, u64)> {
-        let mut may: Vec<u8> = (SHORT..=ROOM).collect();
-        if question.numbers > 0 {
-            may.push(NOTHERE);
-        }
-        may.push(SEALED);
-        let rows = &self.rows[question.function];
+    /// How often each of these refusals of a question was given. What takes no numbers is always
+    /// there.
+    fn refusals(&self, question: &Question, rows: &[u8]) -> Vec<(String, u64)> {
+        let may = |row: &&u8| **row != NOTHERE || question.numbers > 0;
         let named = |row| format!("{} {}", question.function, refusal::shown(row));
-        may.into_iter()
-            .map(|row| (named(row), rows.of(row)))
-            .collect()
+        let given = &self.rows[question.function];
+        let rows = rows.iter().filter(may);
+        rows.map(|row| (named(*row), given.of(*row))).collect()
     }
+}
+
+/// Prints the counts, and ends the test where one is less than that.
+fn reached(counts: &[(String, u64)], least: u64) {
+    for (name, count) in counts {
+        println!("{count:8} {name}");
+    }
+    let rare = counts.iter().find(|(_, count)| *count < least);
+    assert_eq!(rare, None, "this was reached less than {least} times");
 }
 
 /// The cases of an answer, behind its name where it has no cases of its own.

@@ -2,8 +2,8 @@
 
 use crate::proved::readings as proved;
 use second::hex::to_hex;
-use second::reading::{self, entries, Entry, Reading};
-use second::section::{accept, Body, Inside, Segmentation};
+use second::reading::{entries, Entry, Reading};
+use second::section::{Apart, Body, Segmentation};
 
 /// The entries of an answer, or the number of the refusal.
 pub type Listed = Result<Vec<Entry>, u8>;
@@ -17,7 +17,8 @@ pub struct Question {
     pub answer: &'static str,
     /// How many numbers say what is asked for.
     pub numbers: usize,
-    pub second: fn(&[u8], &[u64]) -> Listed,
+    /// Asked of a section that was taken apart once, whatever else is asked of it.
+    pub second: fn(&Apart, &[u64]) -> Listed,
     pub proved: fn(&mut [u8], &[usize], &mut [u64]) -> u64,
 }
 
@@ -38,7 +39,7 @@ pub static COMMAND: Question = Question {
     word: "command",
     answer: "command",
     numbers: 0,
-    second: |section, _| listed(reading::command(section)),
+    second: |section, _| listed(section.command()),
     proved: |section, _, out| proved::command(section, out),
 };
 
@@ -47,7 +48,7 @@ pub static INSERT_COMPONENT: Question = Question {
     word: "insert-component",
     answer: "insert component",
     numbers: 1,
-    second: |section, at| listed(reading::insert_component(section, at[0])),
+    second: |section, at| listed(section.insert_component(at[0])),
     proved: |section, at, out| proved::insert_component(section, at[0], out),
 };
 
@@ -56,7 +57,7 @@ pub static SCHEDULE_EVENT: Question = Question {
     word: "event",
     answer: "event",
     numbers: 1,
-    second: |section, at| listed(reading::event(section, at[0])),
+    second: |section, at| listed(section.event(at[0])),
     proved: |section, at, out| proved::schedule_event(section, at[0], out),
 };
 
@@ -65,7 +66,7 @@ pub static EVENT_COMPONENT: Question = Question {
     word: "event-component",
     answer: "event component",
     numbers: 2,
-    second: |section, at| listed(reading::event_component(section, at[0], at[1])),
+    second: |section, at| listed(section.event_component(at[0], at[1])),
     proved: |section, at, out| proved::event_component(section, at[0], at[1], out),
 };
 
@@ -74,7 +75,7 @@ pub static PRIVATE_BYTE: Question = Question {
     word: "private-byte",
     answer: "private byte",
     numbers: 1,
-    second: |section, at| listed(reading::private_byte(section, at[0])),
+    second: |section, at| listed(section.private_byte(at[0])),
     proved: |section, at, out| proved::private_byte(section, at[0], out),
 };
 
@@ -83,7 +84,7 @@ pub static KNOWN_COUNT: Question = Question {
     word: "descriptors",
     answer: "descriptor count",
     numbers: 0,
-    second: |section, _| listed(reading::descriptor_count(section)),
+    second: |section, _| listed(section.descriptor_count()),
     proved: |section, _, out| proved::known_count(section, out),
 };
 
@@ -92,7 +93,7 @@ pub static KNOWN_DESCRIPTOR: Question = Question {
     word: "descriptor",
     answer: "descriptor",
     numbers: 1,
-    second: |section, at| listed(reading::descriptor(section, at[0])),
+    second: |section, at| listed(section.descriptor(at[0])),
     proved: |section, at, out| proved::known_descriptor(section, at[0], out),
 };
 
@@ -101,7 +102,7 @@ pub static DTMF_CHAR: Question = Question {
     word: "dtmf-char",
     answer: "DTMF character",
     numbers: 2,
-    second: |section, at| listed(reading::dtmf_char(section, at[0], at[1])),
+    second: |section, at| listed(section.dtmf_char(at[0], at[1])),
     proved: |section, at, out| proved::dtmf_char(section, at[0], at[1], out),
 };
 
@@ -110,7 +111,7 @@ pub static SEGMENTATION_COMPONENT: Question = Question {
     word: "segmentation-component",
     answer: "segmentation component",
     numbers: 2,
-    second: |section, at| listed(reading::segmentation_component(section, at[0], at[1])),
+    second: |section, at| listed(section.segmentation_component(at[0], at[1])),
     proved: |section, at, out| proved::segmentation_component(section, at[0], at[1], out),
 };
 
@@ -119,7 +120,7 @@ pub static AUDIO_COMPONENT: Question = Question {
     word: "audio-component",
     answer: "audio component",
     numbers: 2,
-    second: |section, at| listed(reading::audio_component(section, at[0], at[1])),
+    second: |section, at| listed(section.audio_component(at[0], at[1])),
     proved: |section, at, out| proved::audio_component(section, at[0], at[1], out),
 };
 
@@ -151,28 +152,24 @@ fn listed(answer: Result<impl Reading, u8>) -> Listed {
 }
 
 /// The section's bytes at the place that is answered are those that were read as the field.
-fn upid(section: &[u8], n: u64) -> Listed {
-    let upid = reading::upid(section, n)?;
-    let there = &section[upid.offset..upid.offset + upid.bytes.len()];
+fn upid(section: &Apart, n: u64) -> Listed {
+    let upid = section.upid(n)?;
+    let there = &section.bytes[upid.offset..upid.offset + upid.bytes.len()];
     assert_eq!(there, segmentation_upid(section, n as usize));
     listed(Ok(upid))
 }
 
 /// The field of known descriptor `n`.
-fn segmentation_upid(section: &[u8], n: usize) -> Vec<u8> {
-    let Ok(Inside::Clear(clear)) = accept(section).map(|section| section.inside) else {
-        panic!("a section with a UPID is accepted and not sealed");
-    };
-    let bodies = clear
-        .descriptors
-        .into_iter()
-        .map(|descriptor| descriptor.body);
+fn segmentation_upid<'a>(section: &'a Apart, n: usize) -> &'a [u8] {
+    let clear = section.clear();
+    let clear = clear.expect("a section with a UPID is accepted and not sealed");
+    let bodies = clear.descriptors.iter().map(|descriptor| &descriptor.body);
     let mut known = bodies.filter(|body| !matches!(body, Body::Unknown(_)));
     match known.nth(n) {
         Some(Body::Segmentation(Segmentation {
             segment: Some(segment),
             ..
-        })) => segment.segmentation_upid,
+        })) => &segment.segmentation_upid,
         other => panic!("no UPID is in {other:?}"),
     }
 }

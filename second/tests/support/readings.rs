@@ -1,5 +1,6 @@
 //! The bench's typed questions. Each is put in rooms of every kind, so that one question compares
-//! the answer, the refusal for want of room, and all that must stay as it was.
+//! the answer, the refusal for want of room, and all that must stay as it was. The second program
+//! takes a section apart once for all that is asked of it; the proved one gets the bytes each time.
 
 use super::questions::{
     Question, AUDIO_COMPONENT, COMMAND, DTMF_CHAR, EVENT_COMPONENT, INSERT_COMPONENT, KNOWN_COUNT,
@@ -9,6 +10,7 @@ use super::rooms::{in_room, rooms};
 use super::Bench;
 use second::reading::Entry;
 use second::refusal::ROOM;
+use second::section::Apart;
 
 /// More numbers than any answer has.
 const PLENTY: usize = 24;
@@ -22,7 +24,7 @@ impl Bench {
     pub fn answer(
         &mut self,
         question: &Question,
-        section: &[u8],
+        section: &Apart,
         at: &[usize],
     ) -> Result<Vec<u64>, u8> {
         let numbers: Vec<u64> = at.iter().map(|number| *number as u64).collect();
@@ -32,21 +34,23 @@ impl Bench {
         for room in rooms(&mut self.random, &answer, PLENTY) {
             let answer = in_room(&answer, room);
             let call = |section: &mut [u8], out: &mut [u64]| (question.proved)(section, at, out);
-            let paste = || question.pasted(section, at, room);
-            self.same_written(question.function, section, room, &answer, call, paste);
+            let paste = || question.pasted(section.bytes, at, room);
+            let function = question.function;
+            self.same_written(function, section.bytes, room, &answer, call, paste);
             self.met.call(question, answer.err() == Some(ROOM));
         }
         answer
     }
 
     /// The same; says whether there was an answer.
-    pub fn ask(&mut self, question: &Question, section: &[u8], at: &[usize]) -> bool {
+    pub fn ask(&mut self, question: &Question, section: &Apart, at: &[usize]) -> bool {
         self.answer(question, section, at).is_ok()
     }
 
     /// Every question: with every number that is there, with those up to two past each count, and
     /// with some far away.
     pub fn ask_everything(&mut self, section: &[u8]) {
+        let section = &Apart::of(section);
         self.ask(&COMMAND, section, &[]);
         self.ask_list(&INSERT_COMPONENT, section, &[]);
         self.ask_list(&PRIVATE_BYTE, section, &[]);
@@ -67,7 +71,7 @@ impl Bench {
 
     /// A list, or the one inside the thing of this number, from its front until nothing is there,
     /// and past its end. Says how many things are there.
-    fn ask_list(&mut self, question: &Question, section: &[u8], inside: &[usize]) -> usize {
+    fn ask_list(&mut self, question: &Question, section: &Apart, inside: &[usize]) -> usize {
         let mut count = 0;
         while self.ask(question, section, &[inside, &[count]].concat()) {
             count += 1;
@@ -80,7 +84,7 @@ impl Bench {
     }
 
     /// The lists inside each of so many things, and inside things that are not there.
-    fn ask_inside(&mut self, question: &Question, section: &[u8], count: usize) {
+    fn ask_inside(&mut self, question: &Question, section: &Apart, count: usize) {
         for n in 0..count {
             self.ask_list(question, section, &[n]);
         }
@@ -94,6 +98,7 @@ impl Bench {
 
     /// Each question once, with numbers of every size.
     pub fn ask_each(&mut self, section: &[u8]) {
+        let section = &Apart::of(section);
         for question in QUESTIONS {
             let numbers = (0..question.numbers).map(|_| self.any_number());
             let at: Vec<usize> = numbers.collect();

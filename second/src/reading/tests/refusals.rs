@@ -2,7 +2,9 @@
 
 use super::*;
 use crate::made::finished;
-use crate::refusal::{COMMAND, CRC, CRYPT, DESCRIPTOR, LOOP, SHORT, SIZE, SYNTAX, TABLE, VERSION};
+use crate::refusal::{
+    COMMAND, CRC, CRYPT, DESCRIPTOR, LOOP, SEALED, SHORT, SIZE, SYNTAX, TABLE, VERSION,
+};
 
 /// The refusal of every question, asked with small numbers and with numbers past any count.
 fn refused(section: &[u8], expected: u8) {

@@ -4,6 +4,7 @@
 use crate::support::built::{section, Command, Descriptor, Segmentation, Size, Writer};
 use crate::support::house::BREAK;
 use crate::support::Bench;
+use second::section::Apart;
 
 /// The types that open a break (01, after 003).
 const OPENING_TYPES: [u8; 5] = [0x22, 0x30, 0x32, 0x34, 0x36];
@@ -60,7 +61,7 @@ fn signal(bench: &mut Bench, list: Vec<Writer>) -> Vec<u64> {
     let command = Command::time_signal(random);
     let built = section(random, command, list, &[]);
     bench.ask_house(&built.bytes);
-    let answer = bench.house_answer(&BREAK, &built.bytes);
+    let answer = bench.house_answer(&BREAK, &Apart::of(&built.bytes));
     answer.expect("an accepted section")
 }
 

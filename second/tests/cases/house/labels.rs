@@ -3,6 +3,7 @@
 
 use crate::support::built::{section, Command, Descriptor, Segmentation, Size, Writer};
 use crate::support::Bench;
+use second::section::Apart;
 
 pub fn all(bench: &mut Bench) {
     every_length(bench);
@@ -39,7 +40,7 @@ fn label(bench: &mut Bench, list: Vec<Writer>) -> Vec<u64> {
     let command = Command::any(&mut bench.random, Size::Short);
     let built = section(&mut bench.random, command, list, &[]);
     let house_name = bench.random.bytes(7);
-    bench.bill_label(&built.bytes, &house_name)
+    bench.bill_label(&Apart::of(&built.bytes), &house_name)
 }
 
 fn every_length(bench: &mut Bench) {
@@ -63,10 +64,11 @@ fn behind_others(bench: &mut Bench) {
 fn house_names(bench: &mut Bench) {
     let list = vec![without_upid(bench)];
     let built = section(&mut bench.random, Command::null(), list, &[]);
+    let (built, nothing) = (Apart::of(&built.bytes), Apart::of(&[]));
     for length in (0..=40).chain([255, 256, 4096, 70_000]) {
         let house_name = bench.random.bytes(length);
-        let label = bench.bill_label(&built.bytes, &house_name);
+        let label = bench.bill_label(&built, &house_name);
         assert_eq!(label, [1, 0, length as u64]);
-        assert_eq!(bench.bill_label(&[], &house_name), label);
+        assert_eq!(bench.bill_label(&nothing, &house_name), label);
     }
 }

@@ -6,6 +6,7 @@ use crate::support::built::{
 };
 use crate::support::house::BREAK;
 use crate::support::Bench;
+use second::section::Apart;
 
 pub fn all(bench: &mut Bench) {
     for _ in 0..20 {
@@ -40,6 +41,7 @@ fn behind_many(bench: &mut Bench) {
             section = grown(&section, &more);
         }
         bench.ask_house(&section);
+        let section = Apart::of(&section);
         let opened = bench.house_answer(&BREAK, &section).expect("accepted");
         assert_eq!((opened[0], opened.len()), (1, 2));
         let label = bench.bill_label(&section, b"");

@@ -5,6 +5,7 @@ use crate::support::built::with_length_and_crc;
 use crate::support::house::{BREAK, DVB, EFFECTIVE_TIME};
 use crate::support::Bench;
 use second::samples::{RESTORED_TEXT_OF_003, TEXT_OF_004};
+use second::section::Apart;
 use second::text::text_to_section;
 
 const HOUSE_NAME: &[u8] = b"a house name";
@@ -27,6 +28,7 @@ fn sample(text: &str) -> Vec<u8> {
 
 fn the_cue_of_004(bench: &mut Bench) {
     let section = sample(TEXT_OF_004);
+    let section = Apart::of(&section);
     assert_eq!(bench.house_answer(&BREAK, &section), Ok(vec![1, 18132042]));
     assert_eq!(bench.ticks_to_millis(18132042), 201467);
     let time = bench.house_answer(&EFFECTIVE_TIME, &section);
@@ -37,6 +39,7 @@ fn the_cue_of_004(bench: &mut Bench) {
 
 fn the_restored_first_text_of_003(bench: &mut Bench) {
     let section = sample(RESTORED_TEXT_OF_003);
+    let section = Apart::of(&section);
     assert_eq!(bench.house_answer(&BREAK, &section), Ok(vec![1, 2160000]));
     assert_eq!(bench.ticks_to_millis(2160000), 24000);
     let time = bench.house_answer(&EFFECTIVE_TIME, &section);

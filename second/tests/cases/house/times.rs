@@ -4,6 +4,7 @@ use crate::support::built::{section, with_crc, Command};
 use crate::support::house::EFFECTIVE_TIME;
 use crate::support::Bench;
 use second::bits::write_field;
+use second::section::Apart;
 
 /// The first bits of pts_adjustment and of the pts_time of a time signal.
 const PTS_ADJUSTMENT: usize = 39;
@@ -33,7 +34,7 @@ fn worked_sums(bench: &mut Bench) {
 
 fn is(bench: &mut Bench, pts_time: u64, pts_adjustment: u64, ticks: u64) {
     let section = signal(bench, pts_time, pts_adjustment);
-    let answer = bench.house_answer(&EFFECTIVE_TIME, &section);
+    let answer = bench.house_answer(&EFFECTIVE_TIME, &Apart::of(&section));
     assert_eq!(answer, Ok(vec![1, ticks]));
 }
 

@@ -8,6 +8,7 @@ use crate::support::questions::{
     AUDIO_COMPONENT, DTMF_CHAR, KNOWN_DESCRIPTOR, SEGMENTATION_COMPONENT, UPID,
 };
 use crate::support::Bench;
+use second::section::Apart;
 
 /// The bytes of a section that are no command, descriptors or stuffing.
 const FRAME: usize = 13 + 1 + 2 + 4;
@@ -64,8 +65,9 @@ fn many_descriptors(bench: &mut Bench) {
         let stuffing = bench.random.bytes(stuffing);
         let built = section(&mut bench.random, Command::null(), list, &stuffing);
         ask(bench, &built.bytes);
+        let section = Apart::of(&built.bytes);
         for n in 0..count {
-            assert!(bench.ask(&KNOWN_DESCRIPTOR, &built.bytes, &[n]));
+            assert!(bench.ask(&KNOWN_DESCRIPTOR, &section, &[n]));
         }
     }
 }
@@ -85,7 +87,8 @@ fn lists_behind_many(bench: &mut Bench) {
     list.push(Descriptor::dtmf(random, 2));
     list.push(segmentation.descriptor(random));
     list.push(Descriptor::audio(random, 2));
-    let section = section(random, Command::null(), list, &[]).bytes;
+    let built = section(random, Command::null(), list, &[]);
+    let section = Apart::of(&built.bytes);
     let mut there = 0;
     for n in 299..=304 {
         there += usize::from(bench.ask(&UPID, &section, &[n]));

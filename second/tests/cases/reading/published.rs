@@ -5,6 +5,7 @@ use crate::support::built::with_length_and_crc;
 use crate::support::questions::{COMMAND, KNOWN_COUNT, KNOWN_DESCRIPTOR, UPID};
 use crate::support::Bench;
 use second::samples::TEXT_OF_004;
+use second::section::Apart;
 use second::text::text_to_section;
 
 pub fn samples(bench: &mut Bench) {
@@ -22,6 +23,7 @@ pub fn samples(bench: &mut Bench) {
 
 fn the_cue_of_004(bench: &mut Bench) {
     let section = text_to_section(TEXT_OF_004.as_bytes(), 4096).unwrap();
+    let section = Apart::of(&section);
     let descriptor = [
         2, 1073741883, 0, 1, 0, 1, 1, 3, 1, 18132042, 8, 8, 52, 0, 0, 0,
     ];
