@@ -41,5 +41,6 @@ breakBy (Command.Refused r) ds = Break.Refused r
 abbrev pub refusedBreak : Refusal → Break
 refusedBreak r = cond (eqb (numberOf r) 17) Break.Unread (Break.Refused r)
 
+-- of any bytes: by their refusal, or else by the command and the known descriptors
 unfoldable pub breakAnswer : List ℕ → Break
 breakAnswer s = asked (openOf s) refusedBreak (λ c. breakBy (command s) (knownReadings s c))

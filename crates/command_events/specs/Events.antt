@@ -16,6 +16,7 @@ use Rattle.command_reading.specs.Command.{isType, eventId, availsOf}
 abbrev pub eventRows : Trace → ℕ → Trace
 eventRows t n = cond (isType t 0x04 && ltb n (look t "splice_count")) (part "splice_event_id" n t) []
 
+-- when it takes place: for the whole program, or for so many components
 abbrev pub eventTime : Trace → EventTime
 eventTime t =
     cond (isSet t "program_splice_flag") (EventTime.Program (look t "utc_splice_time")) (EventTime.Components (look t "component_count"))

@@ -17,6 +17,7 @@ use Rattle.command_reading.specs.Places.{availsAt}
 use Rattle.command_events.specs.declared.parts.Span.{Span}
 use Rattle.command_events.specs.Events.{eventRows, scheduledOf, eventComponentIn}
 
+-- the same from byte `at` on
 abbrev pub eventTimeAt : List ℕ → ℕ → EventTime
 eventTimeAt s at =
     cond (flagOf s (8 * (at + 5) + 1)) (EventTime.Program (fieldOf s (8 * (at + 6)) 32)) (EventTime.Components (fieldOf s (8 * (at + 6)) 8))

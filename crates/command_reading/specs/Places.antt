@@ -36,6 +36,7 @@ availsAt s end duration =
 abbrev pub insertTimeAt : List ℕ → SpliceTime
 insertTimeAt s = cond (flagOf s 155) SpliceTime.Immediate (cond (flagOf s 153) (timeAt s 20) SpliceTime.NotGiven)
 
+-- of the program, or of so many components
 abbrev pub insertModeAt : List ℕ → Mode
 insertModeAt s = cond (flagOf s 153) Mode.Program (Mode.Components (fieldOf s 160 8))
 

@@ -33,5 +33,6 @@ abbrev pub labelOf : List ℕ → List ℕ → Label → List ℕ
 labelOf s house (Label.Upid at n) = take n (drop at s)
 labelOf s house Label.House = house
 
+-- the label's bytes, of a section and a house name
 unfoldable pub labelBytes : List ℕ → List ℕ → List ℕ
 labelBytes s house = labelOf s house (billLabel s)

@@ -15,6 +15,7 @@ use Rattle.segmentation_reading.specs.declared.answers.Duration.{Duratio
 use Rattle.segmentation_reading.specs.declared.answers.SubSegments.{SubSegments}
 use Rattle.segmentation_reading.specs.declared.answers.Segmentation.{Segmentation}
 
+-- a number as an event's id
 abbrev pub eventId : ℕ → EventId
 eventId n = record { 0 = n }
 
@@ -28,14 +29,17 @@ afterComponents s at = cond (flagOf s (8 * (at + 5))) (at + 6) (at + 7 + 6 * fie
 unfoldable pub upidPlace : List ℕ → ℕ → ℕ
 upidPlace s at = cond (flagOf s (8 * (at + 5) + 1)) (afterComponents s at + 5) (afterComponents s at)
 
+-- of the program, or of so many components
 abbrev pub modeAt : List ℕ → ℕ → Mode
 modeAt s at = cond (flagOf s (8 * (at + 5))) Mode.Program (Mode.Components (fieldOf s (8 * (at + 6)) 8))
 
+-- not restricted, or the four restrictions
 abbrev pub deliveryAt : List ℕ → ℕ → Delivery
 deliveryAt s at =
     cond (flagOf s (8 * (at + 5) + 2)) Delivery.NotRestricted
     (Delivery.Restricted (flagOf s (8 * (at + 5) + 3)) (flagOf s (8 * (at + 5) + 4)) (flagOf s (8 * (at + 5) + 5)) (fieldOf s (8 * (at + 5) + 6) 2))
 
+-- the 40 bits of segmentation_duration, where its flag is set
 abbrev pub durationAt : List ℕ → ℕ → Duration
 durationAt s at =
     cond (flagOf s (8 * (at + 5) + 1)) (Duration.Present (ticks (fieldOf s (8 * afterComponents s at) 40))) Duration.Absent

@@ -20,6 +20,7 @@ unfoldable pub readAt : List ℕ → List Cursor → List Descriptor
 readAt s [] = []
 readAt s (c ∷ cs) = descriptorOf (traceAt s c) ∷ readAt s cs
 
+-- what each known descriptor from a cursor on says
 unfoldable pub knownReadings : List ℕ → Cursor → List Descriptor
 knownReadings s c = readAt s (knownCursors s c)
 
@@ -39,6 +40,7 @@ opens (Descriptor.Time seconds ns offset) = false
 opens (Descriptor.Audio n) = false
 opens (Descriptor.Refused r) = false
 
+-- at least one of them does
 unfoldable pub someOpens : List Descriptor → Bool
 someOpens [] = false
 someOpens (d ∷ ds) = opens d || someOpens ds

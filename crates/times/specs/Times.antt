@@ -35,10 +35,12 @@ effectiveBy adjustment (Command.Private identifier n) = EffectiveTime.None
 effectiveBy adjustment Command.Unread = EffectiveTime.None
 effectiveBy adjustment (Command.Refused r) = EffectiveTime.Refused r
 
+-- a section's, by its pts_adjustment and its command; a refusal and SEALED go out as such
 unfoldable pub effectiveTime : List ℕ → EffectiveTime
 effectiveTime s = asked (openOf s) EffectiveTime.Refused (λ c. effectiveBy (the s "pts_adjustment") (command s))
 
 -- ---- the first DVB check (001, Table 1)
 
+-- a splice insert or a time signal passes it; a refusal and SEALED go out as such
 unfoldable pub dvb : List ℕ → Dvb
 dvb s = asked (openOf s) Dvb.Refused (λ c. cond (isAmong (look (commandTrace s) "splice_command_type") (0x05 ∷ 0x06 ∷ [])) Dvb.Yes Dvb.No)
