@@ -1,4 +1,5 @@
 pub mod Lays
+pub mod One
 pub mod Counts
 pub mod Flags
 pub mod Below
