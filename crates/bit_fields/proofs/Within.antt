@@ -39,6 +39,10 @@ field-in s at w h = ap (λ (t : Bool). cond t (num (bit s) at w) 0) h
 pub field-there : (s : List ℕ) (at w : ℕ) → w ≤ 48 → at + w ≤ 8 * length s → fieldOf s at w ≡ num (bit s) at w
 field-there s at w h l = field-in s at w (narrow s at w h ∙ le-leb (at + w) (8 * length s) l)
 
+-- bits that are all there, at a place written another way, are the field
+pub there : (s : List ℕ) (k at w : ℕ) → k ≡ at → w ≤ 48 → at + w ≤ 8 * length s → num (bit s) k w ≡ fieldOf s at w
+there s k at w e h l = ap (λ (x : ℕ). num (bit s) x w) e ∙ sym (field-there s at w h l)
+
 pub field-out : (s : List ℕ) (at w : ℕ) → within s at w ≡ false → fieldOf s at w ≡ 0
 unfolding fieldOf
 field-out s at w h = ap (λ (t : Bool). cond t (num (bit s) at w) 0) h

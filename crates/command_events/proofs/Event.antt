@@ -11,7 +11,9 @@ use lib.Dec.{eqb, ltb}
 use borrow.Author.Tests.{le-ltb, ltb-true}
 use Rattle.bits.specs.Bits.{bit, num, fieldOf, flagOf}
 use Rattle.bits.proofs.Cases.{cond-same}
+use Rattle.bits.proofs.Within.{there}
 use Rattle.units.specs.declared.refusals.Refusal.{Refusal}
+use Rattle.units.specs.Clock.{eventId}
 use Rattle.grammar.specs.Syntax.{Item, field, reserved}
 use Rattle.grammar.specs.Meaning.{Env, valueOf, values}
 use Rattle.grammar.specs.Tables.{break-duration, avail-numbers, avails, schedule-times, schedule-event}
@@ -24,11 +26,11 @@ use Rattle.grammar.proofs.Telling.{Tells, many, so, rows, arm-last, sub, sub-la
 use Rattle.command_reading.specs.declared.answers.EventTime.{EventTime}
 use Rattle.command_reading.specs.declared.answers.Event.{Event}
 use Rattle.command_reading.specs.declared.answers.EventComponent.{EventComponent}
-use Rattle.command_reading.specs.Command.{eventId, availsOf}
+use Rattle.command_reading.specs.Command.{availsOf}
 use Rattle.command_events.specs.Events.{eventTime, scheduledOf, eventComponentIn}
 use Rattle.command_reading.specs.Places.{availsAt}
 use Rattle.command_events.specs.Places.{eventTimeAt, eventAt, eventComponentAt}
-use Rattle.command_reading.proofs.Rows.{there, zero-or-one}
+use Rattle.command_reading.proofs.Rows.{zero-or-one}
 use Rattle.command_reading.proofs.EventEnd.{Before, early, avails-tell, avails-said}
 
 -- the rows before the event's flags, and those of the flags

@@ -28,8 +28,8 @@ use Rattle.command_events.specs.Events.{eventRows, scheduledOf, eventCom
 use Rattle.command_events.specs.Places.{eventIs}
 use Rattle.command_reading.proofs.Said.{came, bounds, by-table, trace-is}
 use Rattle.command_reading.proofs.Nothing.{none-of, type-alone}
-use Rattle.command_reading.proofs.Shorter.{endless, onward}
-use Rattle.command_reading.proofs.Firsts.{anew, first-end, one-more}
+use Rattle.grammar.proofs.Shorter.{straight, onward}
+use Rattle.grammar.proofs.Firsts.{anew, first-end, one-more}
 use Rattle.command_events.proofs.Event.{event-tells}
 
 -- where there is no command
@@ -56,7 +56,7 @@ record Schedule (s : List ℕ) (end : ℕ) (t : Trace) : Type 0 where
   parts : (n : ℕ) → part "splice_event_id" n (typed s t) ≡ part "splice_event_id" n (list ++ [])
 
 schedule-lists : (s : List ℕ) (env : Env) (stop : ℕ) → Tells (λ j t. (end : ℕ) → j ≡ 8 * end → Schedule s end t) splice-schedule env (bit s) stop 112
-unfolding splice-schedule schedule-event schedule-times avails break-duration avail-numbers values look typed scoped endless
+unfolding splice-schedule schedule-event schedule-times avails break-duration avail-numbers values look typed scoped straight
 schedule-lists s env stop =
     rows
     (λ m.
@@ -138,7 +138,7 @@ module _ (s : List ℕ) (end n : ℕ) (t : Trace) (e : commandReading s ≡ reac
             cc
 
         starts : 15 ≤ at
-        unfolding schedule-event schedule-times avails break-duration avail-numbers endless
+        unfolding schedule-event schedule-times avails break-duration avail-numbers straight
         starts =
             let far = onward schedule-event refl [] (bit s) (8 * end) n 120 (8 * at) _ (reached-at (again n (one s end) 120) (8 * at) (sym (place n) ∙ p)) in
             omega arith

@@ -5,12 +5,13 @@ use mathlib.Core.Bool.{cond, _&&_}
 use mathlib.Core.List.{[]}
 use lib.Dec.{ltb}
 use Rattle.units.specs.declared.refusals.Refusal.{Refusal}
+use Rattle.units.specs.Clock.{eventId}
 use Rattle.grammar.specs.Traces.{Trace}
 use Rattle.grammar.specs.Names.{look, isSet, part}
 use Rattle.command_reading.specs.declared.answers.EventTime.{EventTime}
 use Rattle.command_reading.specs.declared.answers.Event.{Event}
 use Rattle.command_reading.specs.declared.answers.EventComponent.{EventComponent}
-use Rattle.command_reading.specs.Command.{isType, eventId, availsOf}
+use Rattle.command_reading.specs.Command.{isType, availsOf}
 
 -- the rows of event n of the schedule with the rows t, none where there is no such event
 abbrev pub eventRows : Trace → ℕ → Trace

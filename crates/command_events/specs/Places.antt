@@ -8,11 +8,12 @@ use lib.ListN.{length}
 use lib.Dec.{ltb}
 use Rattle.bits.specs.Bits.{fieldOf, flagOf}
 use Rattle.units.specs.declared.refusals.Refusal.{Refusal}
+use Rattle.units.specs.Clock.{eventId}
 use Rattle.grammar.specs.Names.{look}
 use Rattle.command_reading.specs.declared.answers.EventTime.{EventTime}
 use Rattle.command_reading.specs.declared.answers.Event.{Event}
 use Rattle.command_reading.specs.declared.answers.EventComponent.{EventComponent}
-use Rattle.command_reading.specs.Command.{commandTrace, isType, eventId}
+use Rattle.command_reading.specs.Command.{commandTrace, isType}
 use Rattle.command_reading.specs.Places.{availsAt}
 use Rattle.command_events.specs.declared.parts.Span.{Span}
 use Rattle.command_events.specs.Events.{eventRows, scheduledOf, eventComponentIn}

@@ -11,6 +11,7 @@ use lib.Dec.{eqb}
 use borrow.Author.Tests.{eq-eqb}
 use Rattle.bits.specs.Bits.{bit, fieldOf}
 use Rattle.bits.proofs.Cases.{by-cases}
+use Rattle.bits.proofs.Within.{there}
 use Rattle.grammar.specs.Syntax.{field}
 use Rattle.grammar.specs.Meaning.{Env, values, bind}
 use Rattle.grammar.specs.Tables.{insert-component}
@@ -19,7 +20,6 @@ use Rattle.grammar.specs.Names.{look}
 use Rattle.grammar.proofs.Telling.{Tells, so, place, rows, arm-last, over}
 use Rattle.command_reading.specs.Command.{timeOf}
 use Rattle.command_reading.specs.Places.{timeAt}
-use Rattle.command_reading.proofs.Rows.{there}
 use Rattle.command_reading.proofs.Times.{time-tells}
 
 -- what a component looks at

@@ -30,7 +30,7 @@ use Rattle.command_reading.specs.Places.{timeAt}
 use Rattle.command_lists.specs.Places.{insertComponentAt}
 use Rattle.command_reading.proofs.Said.{came, bounds, fits, by-table, trace-is}
 use Rattle.command_reading.proofs.Nothing.{none-of, type-alone}
-use Rattle.command_reading.proofs.Firsts.{first-end}
+use Rattle.grammar.proofs.Firsts.{first-end}
 use Rattle.command_lists.proofs.Component.{Component, knowing, component-tells}
 use Rattle.command_lists.proofs.Components.{counted, one, Listed, Insert, insert-lists}
 

@@ -9,6 +9,7 @@ use native.Mathlib.Omega.{arith}
 use lib.ListN.{length}
 use lib.Dec.{eqb}
 use Rattle.bits.specs.Bits.{bit, num, fieldOf, flagOf}
+use Rattle.bits.proofs.Within.{there}
 use Rattle.grammar.specs.Syntax.{Item, field, reserved, is, done, branch}
 use Rattle.grammar.specs.Meaning.{Env, valueOf, values, bind, Reading, reached, again, read}
 use Rattle.grammar.specs.Tables.{splice-time, break-duration, avail-numbers, avails, insert-component, insert-times, splice-insert}
@@ -20,9 +21,9 @@ use Rattle.grammar.proofs.Names.{other, look-none, part-past}
 use Rattle.grammar.proofs.Scope.{scoped}
 use Rattle.grammar.proofs.Telling.{Tells, rows, arm-last, sub, sub-last, some, loop, over}
 use Rattle.command_reading.specs.Command.{typed}
-use Rattle.command_reading.proofs.Rows.{there, zero-or-one}
-use Rattle.command_reading.proofs.Shorter.{endless, onward}
-use Rattle.command_reading.proofs.Firsts.{agree-one, anew}
+use Rattle.command_reading.proofs.Rows.{zero-or-one}
+use Rattle.grammar.proofs.Shorter.{straight, onward}
+use Rattle.grammar.proofs.Firsts.{agree-one, anew}
 use Rattle.command_lists.proofs.Component.{knowing}
 
 -- how many components the insert from byte 14 on has
@@ -73,7 +74,7 @@ uncounted env f stop j =
 listed : (s : List ℕ) (env : Env) (stop end j : ℕ) (list rest : Trace) → valueOf env "splice_immediate_flag" ≡ num (bit s) 155 1 → 168 ≤ 8 * length s
     → again (num (bit s) 160 8) (λ i. read insert-component env (bit s) stop i) 168 ≡ reached j list → j ≤ 8 * end
     → Listed s end (values front (bit s) 112 ++ ((list ++ []) ++ rest))
-unfolding typed values insert-component splice-time scoped endless
+unfolding typed values insert-component splice-time scoped straight
 listed s env stop end j list rest h fits e l =
     record {
       from = omega (arith, onward insert-component refl env (bit s) stop (num (bit s) 160 8) 168 j list e);
@@ -93,7 +94,7 @@ listed s env stop end j list rest h fits e l =
 
 pub insert-lists : (s : List ℕ) (env : Env) (stop : ℕ) → stop ≤ 8 * length s
     → Tells (λ j t. (end : ℕ) → j ≡ 8 * end → Insert s end t) splice-insert env (bit s) stop 112
-unfolding splice-insert insert-times insert-component splice-time avails break-duration avail-numbers values look every scoped endless typed
+unfolding splice-insert insert-times insert-component splice-time avails break-duration avail-numbers values look every scoped straight typed
 insert-lists s env stop fits =
     rows
     (λ m.

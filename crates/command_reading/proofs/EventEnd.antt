@@ -10,6 +10,7 @@ use lib.ListN.{length}
 use lib.Dec.{eqb}
 use Rattle.bits.specs.Bits.{bit, fieldOf}
 use Rattle.bits.proofs.Cases.{and-left, and-right}
+use Rattle.bits.proofs.Within.{there}
 use Rattle.units.specs.Clock.{ticks}
 use Rattle.grammar.specs.Syntax.{Item}
 use Rattle.grammar.specs.Meaning.{Env, valueOf, values}
@@ -22,7 +23,7 @@ use Rattle.grammar.proofs.Telling.{Tells, rows, arm, over}
 use Rattle.command_reading.specs.declared.answers.BreakDuration.{BreakDuration}
 use Rattle.command_reading.specs.Command.{availsOf}
 use Rattle.command_reading.specs.Places.{breakAt, availsAt}
-use Rattle.command_reading.proofs.Rows.{there, from, field-from, each-weaker}
+use Rattle.command_reading.proofs.Rows.{from, field-from, each-weaker}
 
 -- the break of the rows t, where there is one
 abbrev breakIn : Trace → Bool → BreakDuration

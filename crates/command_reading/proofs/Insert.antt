@@ -8,7 +8,9 @@ use Prim.Native.Nat.{ℕ, _*_, _≤_}
 use native.Mathlib.Omega.{arith}
 use lib.ListN.{length}
 use lib.Dec.{eqb}
+use Rattle.units.specs.Clock.{eventId}
 use Rattle.bits.specs.Bits.{bit, num, fieldOf}
+use Rattle.bits.proofs.Within.{there}
 use Rattle.grammar.specs.Syntax.{field, reserved}
 use Rattle.grammar.specs.Meaning.{Env, valueOf, values, bind, again, read}
 use Rattle.grammar.specs.Tables.{splice-time, insert-component, insert-times, splice-insert}
@@ -19,9 +21,9 @@ use Rattle.grammar.proofs.Each.{Each, every, each-append, read-each, repeat-eac
 use Rattle.grammar.proofs.Telling.{Tells, so, rows, arm-last, sub, sub-last, some, loop, over}
 use Rattle.command_reading.specs.declared.answers.Mode.{Mode}
 use Rattle.command_reading.specs.declared.answers.Command.{Command}
-use Rattle.command_reading.specs.Command.{eventId, insertTime, modeOf, availsOf, insertOf}
+use Rattle.command_reading.specs.Command.{insertTime, modeOf, availsOf, insertOf}
 use Rattle.command_reading.specs.Places.{insertTimeAt, insertModeAt, insertAt, availsAt}
-use Rattle.command_reading.proofs.Rows.{there, zero-or-one}
+use Rattle.command_reading.proofs.Rows.{zero-or-one}
 use Rattle.command_reading.proofs.Times.{time-tells}
 use Rattle.command_reading.proofs.EventEnd.{early, avails-tell, avails-said}
 

@@ -5,6 +5,4 @@ pub mod EventEnd
 pub mod Insert
 pub mod Private
 pub mod Said
-pub mod Shorter
-pub mod Firsts
 pub mod Nothing

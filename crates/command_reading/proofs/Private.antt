@@ -6,6 +6,7 @@ use Prim.Native.Nat.{ℕ, _-_, _*_, _≤_}
 use native.Mathlib.Omega.{arith}
 use lib.ListN.{length}
 use Rattle.bits.specs.Bits.{bit, fieldOf}
+use Rattle.bits.proofs.Within.{there}
 use Rattle.grammar.specs.Syntax.{field}
 use Rattle.grammar.specs.Meaning.{Env, values}
 use Rattle.grammar.specs.Tables.{private-command}
@@ -13,7 +14,6 @@ use Rattle.grammar.specs.Traces.{Trace}
 use Rattle.grammar.specs.Names.{look, allOf}
 use Rattle.grammar.proofs.Names.{fieldsFrom, all-many}
 use Rattle.grammar.proofs.Telling.{Tells, many, rows, to-end}
-use Rattle.command_reading.proofs.Rows.{there}
 
 -- the rows t of a private command up to byte `end`
 pub record Private (s : List ℕ) (end : ℕ) (t : Trace) : Type 0 where

@@ -1,6 +1,6 @@
--- A row of a command as the code reads it, by its place; rows that are none of some names.
+-- The bytes of a section from one on, a row of one bit, and rows that pass a weaker test.
 -- Assumes nothing.
-use mathlib.Core.Path.{_≡_, sym, ap, ap₂, _∙_}
+use mathlib.Core.Path.{_≡_, ap, ap₂, _∙_}
 use mathlib.Core.Bool.{Bool, true, cond, _&&_}
 use mathlib.Core.List.{List, [], _∷_}
 use mathlib.Core.Logic.{_⊎_, inl, inr}
@@ -11,17 +11,12 @@ use lib.Seq.{getD-drop}
 use lib.Dec.{leb}
 use borrow.Rule.Slice.PartAt.{part-to-end}
 use Rattle.bits.specs.Bits.{bit, num, within, fieldOf}
-use Rattle.bits.proofs.Within.{field-there}
 use Rattle.bits.proofs.Cases.{same-leb}
 use Rattle.bits.proofs.Num.{num-ext, num-lt}
 use Rattle.bits.proofs.Bytes.{bit-lt}
 use Rattle.grammar.specs.Syntax.{Item}
 use Rattle.grammar.specs.Traces.{Trace}
 use Rattle.grammar.proofs.Each.{Each}
-
--- a row at place k that is all there is the field at that place
-pub there : (s : List ℕ) (k p w : ℕ) → k ≡ p → w ≤ 48 → p + w ≤ 8 * length s → num (bit s) k w ≡ fieldOf s p w
-there s k p w e h l = ap (λ (x : ℕ). num (bit s) x w) e ∙ sym (field-there s p w h l)
 
 -- the bytes from byte n on
 abbrev pub from : List ℕ → ℕ → List ℕ

@@ -9,6 +9,7 @@ use native.Mathlib.Omega.{arith}
 use lib.ListN.{length}
 use lib.Dec.{eqb}
 use Rattle.bits.specs.Bits.{bit, num}
+use Rattle.bits.proofs.Within.{there}
 use Rattle.units.specs.Clock.{ticks}
 use Rattle.grammar.specs.Meaning.{Env, values}
 use Rattle.grammar.specs.Tables.{splice-time}
@@ -18,7 +19,7 @@ use Rattle.grammar.proofs.Telling.{Tells, rows, arm-last, over}
 use Rattle.command_reading.specs.declared.answers.SpliceTime.{SpliceTime}
 use Rattle.command_reading.specs.Command.{timeOf}
 use Rattle.command_reading.specs.Places.{timeAt}
-use Rattle.command_reading.proofs.Rows.{there, from, field-from, zero-or-one}
+use Rattle.command_reading.proofs.Rows.{from, field-from, zero-or-one}
 
 -- whatever rows come after it
 pub time-tells : (s : List ℕ) (env : Env) (stop at : ℕ) → stop ≤ 8 * length s

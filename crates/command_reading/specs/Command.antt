@@ -6,9 +6,8 @@ use mathlib.Core.List.{List, [], _∷_, _++_}
 use lib.ListN.{length}
 use lib.Dec.{leb, eqb}
 use Rattle.bits.specs.Bits.{bit}
-use Rattle.units.specs.declared.clock.EventId.{EventId}
 use Rattle.units.specs.declared.refusals.Refusal.{Refusal}
-use Rattle.units.specs.Clock.{ticks}
+use Rattle.units.specs.Clock.{ticks, eventId}
 use Rattle.grammar.specs.Syntax.{field}
 use Rattle.grammar.specs.Meaning.{values, Reading, broken, reached, read}
 use Rattle.grammar.specs.Tables.{sized-command}
@@ -45,9 +44,6 @@ commandTrace s = typed s (traceOf (commandReading s))
 -- the command is of that type
 abbrev pub isType : Trace → ℕ → Bool
 isType t v = eqb (look t "splice_command_type") v
-
-abbrev pub eventId : ℕ → EventId
-eventId n = record { 0 = n }
 
 -- splice_time()
 abbrev pub timeOf : Trace → SpliceTime

@@ -4,14 +4,13 @@ use Prim.Native.Nat.{ℕ, _+_, _-_, _*_}
 use mathlib.Core.Bool.{Bool, cond}
 use mathlib.Core.List.{List}
 use Rattle.bits.specs.Bits.{fieldOf, flagOf}
-use Rattle.units.specs.Clock.{ticks}
+use Rattle.units.specs.Clock.{ticks, eventId}
 use Rattle.command_reading.specs.declared.answers.SpliceTime.{SpliceTime}
 use Rattle.command_reading.specs.declared.answers.Mode.{Mode}
 use Rattle.command_reading.specs.declared.answers.BreakDuration.{BreakDuration}
 use Rattle.command_reading.specs.declared.answers.Avails.{Avails}
 use Rattle.command_reading.specs.declared.answers.Insert.{Insert}
 use Rattle.command_reading.specs.declared.answers.Command.{Command}
-use Rattle.command_reading.specs.Command.{eventId}
 
 -- splice_time() from byte `at` on
 unfoldable pub timeAt : List ℕ → ℕ → SpliceTime

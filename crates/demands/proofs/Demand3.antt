@@ -56,7 +56,8 @@ use Rattle.labels.specs.declared.answers.Label.{Label}
 use Rattle.labels.specs.Labels.{labelAt, labelOf, billLabel, labelBytes}
 use Rattle.demands.specs.Same.{left, rowsOf, Same}
 use Rattle.demands.specs.OneCue.{unplaced, OneCue}
-use Rattle.demands.proofs.Blank.{look-blank, command-blank, insert-component-blank, event-blank, event-component-blank, private-byte-blank, descriptor-blank, dtmf-blank, segmentation-component-blank, audio-component-blank}
+use Rattle.grammar.proofs.Blank.{look-blank}
+use Rattle.demands.proofs.Blank.{command-blank, insert-component-blank, event-blank, event-component-blank, private-byte-blank, descriptor-blank, dtmf-blank, segmentation-component-blank, audio-component-blank}
 use Rattle.demands.proofs.Walked.{blanksAt}
 use Rattle.demands.proofs.Rows.{cursors, is-left}
 use Rattle.demands.proofs.Numbers.{command-read, Alike, alike}

@@ -30,7 +30,8 @@ use Rattle.labels.specs.declared.answers.Label.{Label}
 use Rattle.signals.specs.Signals.{readAt}
 use Rattle.labels.specs.Labels.{labelled, labelAt, labelOf}
 use Rattle.demands.specs.OneCue.{unplaced}
-use Rattle.demands.proofs.Blank.{look-blank, all-blank, descriptor-blank}
+use Rattle.grammar.proofs.Blank.{look-blank, all-blank}
+use Rattle.demands.proofs.Blank.{descriptor-blank}
 use Rattle.demands.proofs.Walked.{blanksAt}
 
 -- ---- by number

@@ -7,7 +7,7 @@ use mathlib.Core.List.{List, [], _∷_, _++_, append-nil}
 use Prim.Native.Nat.{ℕ, zero, suc, _+_, _-_, _*_, _<_}
 use native.Mathlib.Omega.{arith}
 use lib.Dec.{leb, eqb}
-use borrow.Author.Tests.{lt-leb, ne-eqb}
+use borrow.Author.Tests.{not-true, lt-leb, ne-eqb}
 use Rattle.bits.specs.Bits.{bit, num}
 use Rattle.grammar.specs.Syntax.{field}
 use Rattle.grammar.specs.Meaning.{values, read, run}
@@ -26,7 +26,6 @@ use Rattle.descriptors.specs.Walk.{byTag, kindOf, stepOf}
 use Rattle.descriptors.specs.Loop.{onStep, walk, walked, traceAt, tracesAt}
 use Rattle.descriptors.proofs.Walk.{stepped}
 use Rattle.known_walk.specs.Known.{isKnown, knownAmong}
-use Rattle.descriptor_reading.proofs.Told.{not-true}
 use Rattle.demands.specs.Same.{without, parts, isOwn, own}
 
 -- ---- rows taken out

@@ -9,6 +9,7 @@ use lib.ListN.{length}
 use lib.Dec.{ltb}
 use Rattle.bits.specs.Bits.{bit, num, fieldOf, flagOf}
 use Rattle.bits.proofs.Cases.{cond-same}
+use Rattle.bits.proofs.Within.{there}
 use Rattle.units.specs.Clock.{ticks}
 use Rattle.grammar.specs.Syntax.{Item, field, reserved}
 use Rattle.grammar.specs.Meaning.{values}
@@ -25,7 +26,7 @@ use Rattle.segmentation_reading.specs.declared.answers.SubSegments.{SubSegments
 use Rattle.descriptor_reading.specs.Descriptor.{modeOf, deliveryOf, durationOf, subSegmentsOf, through}
 use Rattle.segmentation_reading.specs.Places.{afterComponents, upidPlace, afterUpid, modeAt, deliveryAt, durationAt, subSegmentsAt}
 use Rattle.descriptor_reading.proofs.SegmentationRows as table
-use Rattle.descriptor_reading.proofs.SegmentationRows.{there, flag-set, deliveryRows, componentRows, durationRows, wholeRows, hasSubNumbers, endRows}
+use Rattle.descriptor_reading.proofs.SegmentationRows.{flag-set, deliveryRows, componentRows, durationRows, wholeRows, hasSubNumbers, endRows}
 use Rattle.descriptor_reading.proofs.Rows.{both, each-rows, each-cond, through-past, size-many}
 
 -- the rows before the body of a descriptor that stands at byte `at`, and the body

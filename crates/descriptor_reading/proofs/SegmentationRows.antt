@@ -12,7 +12,7 @@ use borrow.Author.Tests.{lt-ltb, le-ltb, ltb-true, ltb-false}
 use Rattle.bits.specs.Bits.{bit, num, fieldOf, flagOf}
 use Rattle.bits.proofs.Num.{num-lt}
 use Rattle.bits.proofs.Bytes.{bit-lt}
-use Rattle.bits.proofs.Within.{field-there}
+use Rattle.bits.proofs.Within.{field-there, there}
 use Rattle.grammar.specs.Syntax.{Item, Test, Prog, field, reserved, among, more, done, fields, branch, call}
 use Rattle.grammar.specs.Meaning.{Env, valueOf, values, isAmong, holds, read}
 use Rattle.grammar.specs.Tables.{delivery, segmentation-components, sub-segmented, segmentation-end, segmentation-descriptor}
@@ -108,13 +108,9 @@ zero-or-one (suc zero) h = refl
 zero-or-one (suc (suc x)) h = absurd (omega arith)
 
 module _ (s : List ℕ) where
-  -- a field that is all there, at a place written another way
-  pub there : (k j w : ℕ) → k ≡ j → w ≤ 48 → j + w ≤ 8 * length s → num (bit s) k w ≡ fieldOf s j w
-  there k j w e h l = ap (λ (x : ℕ). num (bit s) x w) e ∙ sym (field-there s j w h l)
-
   -- the tests of a flag
   pub flag-set : (k j : ℕ) → k ≡ j → j + 1 ≤ 8 * length s → eqb (num (bit s) k 1) 1 ≡ flagOf s j
-  flag-set k j e h = ap (λ (x : ℕ). eqb x 1) (there k j 1 e (omega arith) h)
+  flag-set k j e h = ap (λ (x : ℕ). eqb x 1) (there s k j 1 e (omega arith) h)
 
   flag-clear : (k j : ℕ) → k ≡ j → j + 1 ≤ 8 * length s → eqb (num (bit s) k 1) 0 ≡ not (flagOf s j)
   flag-clear k j e h = zero-or-one (num (bit s) k 1) (num-lt (bit s) (bit-lt s) k 1) ∙ ap not (flag-set k j e h)

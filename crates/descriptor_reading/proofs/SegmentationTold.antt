@@ -8,9 +8,11 @@ use Prim.Native.Nat.{ℕ, _+_, _*_, _≤_, _<_}
 use native.Mathlib.Nat.{not-suc-le-zero}
 use native.Mathlib.Omega.{arith}
 use lib.ListN.{length, take, drop}
+use Rattle.units.specs.Clock.{eventId}
 use Rattle.bits.specs.Bits.{bit, fieldOf, flagOf}
 use Rattle.bits.proofs.Cases.{by-cases}
 use Rattle.bits.proofs.Bytes.{AreBytes}
+use Rattle.bits.proofs.Within.{there}
 use Rattle.grammar.specs.Meaning.{Env, values, reached, read}
 use Rattle.grammar.specs.Tables.{segmentation-descriptor}
 use Rattle.grammar.specs.Traces.{Trace, size}
@@ -18,10 +20,10 @@ use Rattle.grammar.specs.Names.{Name, look, isSet, allOf, part}
 use Rattle.grammar.proofs.Ends.{given}
 use Rattle.descriptor_reading.specs.declared.answers.Descriptor.{Descriptor}
 use Rattle.descriptor_reading.specs.Descriptor.{subSegmentsOf, segmentationOf, through}
-use Rattle.segmentation_reading.specs.Places.{eventId, upidPlace, uncancelledAt}
+use Rattle.segmentation_reading.specs.Places.{upidPlace, uncancelledAt}
 use Rattle.descriptor_reading.specs.Places.{segmentationAt, componentsAt}
 use Rattle.descriptor_reading.proofs.SegmentationRows as table
-use Rattle.descriptor_reading.proofs.SegmentationRows.{there, deliveryRows, componentRows, durationRows, wholeRows, endRows, Whole, cancelled, whole}
+use Rattle.descriptor_reading.proofs.SegmentationRows.{deliveryRows, componentRows, durationRows, wholeRows, endRows, Whole, cancelled, whole}
 use Rattle.descriptor_reading.proofs.Rows.{bytes-are}
 use Rattle.descriptor_reading.proofs.SegmentationNames.{headed, id-there, cancel-there, low, to-end, all-to-end, listed, count-told, mode-told, delivery-told, duration-told, subAnswer, upid-type-there, upid-length-there, ends-each, type-there, number-there, expected-there, sub-segments-there, through-size, all-upid, no-components, component-part}
 

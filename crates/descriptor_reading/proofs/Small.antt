@@ -6,6 +6,7 @@ use Prim.Native.Nat.{ℕ, _+_, _*_, _<_}
 use native.Mathlib.Omega.{arith}
 use lib.ListN.{length, getD}
 use Rattle.bits.specs.Bits.{bit, num, fieldOf}
+use Rattle.bits.proofs.Within.{there}
 use Rattle.grammar.specs.Syntax.{Item, field, reserved}
 use Rattle.grammar.specs.Meaning.{Env, values}
 use Rattle.grammar.specs.Tables.{avail-descriptor, dtmf-descriptor, time-descriptor, audio-descriptor}
@@ -18,7 +19,6 @@ use Rattle.descriptors.specs.declared.Kind.{Kind}
 use Rattle.descriptors.specs.Walk.{kindOf, tableOf}
 use Rattle.known_walk.specs.Places.{Stands}
 use Rattle.descriptor_reading.proofs.Tags.{reads-as}
-use Rattle.descriptor_reading.proofs.SegmentationRows.{there}
 use Rattle.descriptor_reading.proofs.SegmentationNames.{headed}
 
 -- ---- the rows

@@ -7,7 +7,7 @@ use Prim.Native.Nat.{ℕ, _+_, _*_, _/_, _<_}
 use native.Mathlib.Omega.{arith}
 use lib.ListN.{length, getD}
 use lib.Dec.{eqb, ltb}
-use borrow.Author.Tests.{le-ltb, ltb-true}
+use borrow.Author.Tests.{not-true, le-ltb, ltb-true}
 use Rattle.bits.specs.Bits.{bit, fieldOf, flagOf}
 use Rattle.bits.proofs.Cases.{and-left, and-right}
 use Rattle.units.specs.declared.refusals.Refusal.{Refusal}
@@ -47,10 +47,6 @@ both {a′ = a′} {b} {b′} e h = ap (λ (c : Bool). c && b) e ∙ go a′ h
     go : (c : Bool) → (c ≡ true → b ≡ b′) → (c && b) ≡ (c && b′)
     go true q = q refl
     go false q = refl
-
-pub not-true : (b : Bool) → not b ≡ true → b ≡ false
-not-true true e = sym e
-not-true false e = refl
 
 -- an empty list has no character
 no-char : (m : ℕ) → cond (ltb m (length {A = ℕ} [])) (DtmfChar.Char (getD [] m 0)) (DtmfChar.Refused Refusal.NotHere) ≡ DtmfChar.Refused Refusal.NotHere

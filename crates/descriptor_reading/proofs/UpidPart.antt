@@ -8,6 +8,7 @@ use Prim.Native.Nat.{ℕ, _+_, _*_, _≤_}
 use native.Mathlib.Omega.{arith}
 use lib.ListN.{length, take, drop}
 use lib.Dec.{eqb}
+use borrow.Author.Tests.{not-true}
 use Rattle.bits.specs.Bits.{bit, fieldOf, flagOf}
 use Rattle.bits.proofs.Cases.{and-left, and-right}
 use Rattle.bits.proofs.Bytes.{AreBytes}
@@ -27,7 +28,7 @@ use Rattle.segmentation_reading.specs.Places.{upidPlace}
 use Rattle.descriptor_reading.specs.Places.{tagAt, upidAt}
 use Rattle.descriptor_reading.proofs.Tags.{reads-as, kind-is}
 use Rattle.descriptor_reading.proofs.SegmentationTold.{upid-inside, upid-bytes}
-use Rattle.descriptor_reading.proofs.Told.{not-true, upid-told, none-upid}
+use Rattle.descriptor_reading.proofs.Told.{upid-told, none-upid}
 use Rattle.known_walk.proofs.EachStands.{stands-or-none}
 
 -- a part is given for a segmentation descriptor that is not cancelled, and for nothing else

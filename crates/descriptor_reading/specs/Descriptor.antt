@@ -7,7 +7,7 @@ use mathlib.Core.List.{List, [], _∷_}
 use lib.ListN.{length, getD}
 use lib.Dec.{ltb, eqb}
 use Rattle.units.specs.declared.refusals.Refusal.{Refusal}
-use Rattle.units.specs.Clock.{ticks}
+use Rattle.units.specs.Clock.{ticks, eventId}
 use Rattle.grammar.specs.Traces.{Trace, size}
 use Rattle.grammar.specs.Names.{isNamed, look, isSet, allOf, part}
 use Rattle.descriptors.specs.declared.Cursor.{Cursor}
@@ -17,7 +17,6 @@ use Rattle.segmentation_reading.specs.declared.answers.Delivery.{Delivery}
 use Rattle.segmentation_reading.specs.declared.answers.Duration.{Duration}
 use Rattle.segmentation_reading.specs.declared.answers.SubSegments.{SubSegments}
 use Rattle.segmentation_reading.specs.declared.answers.Segmentation.{Segmentation}
-use Rattle.segmentation_reading.specs.Places.{eventId}
 use Rattle.descriptor_reading.specs.declared.answers.Descriptor.{Descriptor}
 use Rattle.descriptor_reading.specs.declared.answers.DtmfChar.{DtmfChar}
 use Rattle.descriptor_reading.specs.declared.answers.SegmentationComponent.{SegmentationComponent}

@@ -6,8 +6,8 @@ use mathlib.Core.List.{List}
 use lib.Dec.{eqb, ltb}
 use Rattle.bits.specs.Bits.{fieldOf, flagOf}
 use Rattle.units.specs.declared.refusals.Refusal.{Refusal}
-use Rattle.units.specs.Clock.{ticks}
-use Rattle.segmentation_reading.specs.Places.{eventId, upidPlace, uncancelledAt}
+use Rattle.units.specs.Clock.{ticks, eventId}
+use Rattle.segmentation_reading.specs.Places.{upidPlace, uncancelledAt}
 use Rattle.descriptor_reading.specs.declared.answers.Descriptor.{Descriptor}
 use Rattle.descriptor_reading.specs.declared.answers.DtmfChar.{DtmfChar}
 use Rattle.descriptor_reading.specs.declared.answers.SegmentationComponent.{SegmentationComponent}

@@ -6,13 +6,14 @@ use mathlib.Core.List.{List, [], _∷_}
 use mathlib.Core.Logic.{⊎-elim}
 use Prim.Native.Nat.{ℕ, zero, suc, _+_, _-_, _*_, _≤_}
 use native.Mathlib.Omega.{arith}
-use lib.ListN.{length, set, length-set}
+use lib.ListN.{length}
+use lib.Seq.{length-sets}
 use lib.Dec.{leb, ltb}
 use borrow.Author.Tests.{leb-true, le-leb}
 use Rattle.bits.proofs.Cases.{and-left, and-right, by-cases}
 use Rattle.grammar.specs.Syntax.{Item, Prog, done, stop, fields, branch, call, repeat, frame, fill, under}
 use Rattle.grammar.specs.Meaning.{Env, valueOf, widthOf, holds}
-use Rattle.fields.specs.Fields.{Source, Plan, total, put, advance, laid, widthsOf, names, timesOn, sweepOn, walk, bytesTo, roomy, kept, Has, Lays}
+use Rattle.fields.specs.Fields.{Source, Plan, total, advance, laid, widthsOf, names, timesOn, sweepOn, walk, bytesTo, roomy, kept, Has, Lays}
 
 -- the test and the facts
 pub has-room : (π : Plan) → roomy π ≡ true → Has π
@@ -48,10 +49,6 @@ kept-same g h π e = ap (λ (ρ : Plan). cond (roomy π) ρ π) e
 
 -- ---- what keeps room
 
-pub length-put : (m : List ℕ) (i : ℕ) (ws : List ℕ) → length (put m i ws) ≡ length m
-length-put m i [] = refl
-length-put m i (w ∷ ws) = length-put (set m i w) (i + 1) ws ∙ length-set m i w
-
 abbrev Keeps : (Plan → Plan) → Type 0
 Keeps g = (π : Plan) → roomy π ≡ true → roomy (g π) ≡ true
 
@@ -71,7 +68,7 @@ laid-keeps ws small π e =
     (λ q.
     let fits : π .number + length ws ≤ length (π .widths) = leb-true _ _ q in
     let far : π .at + total ws ≤ 104 + 255 * (π .number + length ws) = omega arith in
-    rw (length-put (π .widths) (π .number) ws, short, le-leb _ _ fits, le-leb _ _ far))
+    rw (length-sets (π .widths) (π .number) ws, short, le-leb _ _ fits, le-leb _ _ far))
     e
 
 times-keep : (n : ℕ) (g : Plan → Plan) → Keeps g → Keeps (timesOn n g)

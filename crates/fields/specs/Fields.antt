@@ -6,7 +6,8 @@ use Prim.Native.Nat.{ℕ, zero, suc, _+_, _-_, _*_, _^_, _≤_}
 use mathlib.Core.Path.{_≡_}
 use mathlib.Core.Bool.{Bool, cond, _&&_}
 use mathlib.Core.List.{List, [], _∷_}
-use lib.ListN.{length, getD, set}
+use lib.ListN.{length, getD}
+use lib.Seq.{sets}
 use lib.Dec.{leb, ltb, eqb}
 use Rattle.bits.specs.Bits.{fieldOf}
 use Rattle.grammar.specs.Syntax.{Item, Prog, done, stop, fields, branch, call, repeat, frame, fill, under}
@@ -44,14 +45,9 @@ abbrev pub total : List ℕ → ℕ
 total [] = 0
 total (w ∷ ws) = w + total ws
 
--- memory with these numbers from place i on
-abbrev pub put : List ℕ → ℕ → List ℕ → List ℕ
-put m i [] = m
-put m i (w ∷ ws) = put (set m i w) (i + 1) ws
-
 -- fields of these widths more
 unfoldable pub advance : List ℕ → Plan → Plan
-advance ws π = record { at = π .at + total ws; number = π .number + length ws; widths = put (π .widths) (π .number) ws }
+advance ws π = record { at = π .at + total ws; number = π .number + length ws; widths = sets (π .widths) (π .number) ws }
 
 -- the same where the memory has room for them all, or else none
 unfoldable pub laid : List ℕ → Plan → Plan

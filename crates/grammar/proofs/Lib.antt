@@ -15,5 +15,8 @@ pub mod Each
 pub mod Telling
 pub mod Names
 pub mod Endless
+pub mod Shorter
+pub mod Firsts
+pub mod Blank
 pub mod Determined
 pub mod Keys

@@ -5,19 +5,19 @@ use mathlib.Core.Path.{_≡_, refl, sym, ap, ap₂, _∙_, subst}
 use mathlib.Core.Bool.{Bool, true, false, cond}
 use mathlib.Core.List.{List, [], _∷_, _++_}
 use Prim.Native.Nat.{ℕ, zero, suc, _+_, _-_, _*_, _≤_, _<_}
-use native.Mathlib.Nat.{add-zero}
 use native.Mathlib.Omega.{arith}
-use lib.ListN.{length, set, length-append}
+use lib.ListN.{length, length-append}
+use lib.Seq.{sets, length-sets}
 use lib.Dec.{leb, ltb, eqb}
 use borrow.Author.Tests.{le-leb, ltb-true, lt-ltb}
+use Rattle.units.proofs.Put.{sets-append}
 use Rattle.bits.specs.Bits.{num}
 use Rattle.grammar.specs.Syntax.{Item, Prog, done, stop, fields, branch, call, repeat, frame, fill, under}
 use Rattle.grammar.specs.Meaning.{Env, valueOf, widthOf, width, values, bind, bindOne, holds, Reading, broken, reached, after, then, again, sweep, exactly, numbered, read}
 use Rattle.grammar.specs.Traces.{Trace, rowsOf, size}
 use Rattle.grammar.proofs.Ends.{Gives, breaks, gives, given, when-gives, after-gives, then-gives, numbered-gives}
 use Rattle.grammar.proofs.Traces.{size-append, size-values}
-use Rattle.fields.proofs.Room.{length-put}
-use Rattle.fields.specs.Fields.{Source, Plan, total, put, advance, laid, widthsOf, names, timesOn, sweepOn, walk}
+use Rattle.fields.specs.Fields.{Source, Plan, total, advance, laid, widthsOf, names, timesOn, sweepOn, walk}
 
 -- ---- widths
 
@@ -44,26 +44,19 @@ pub length-widths : (t : Trace) → length (traceWidths t) ≡ length t
 length-widths [] = refl
 length-widths (x ∷ t) = ap suc (length-widths t)
 
--- ---- memory
-
-pub put-append : (m : List ℕ) (i : ℕ) (u v : List ℕ) → put m i (u ++ v) ≡ put (put m i u) (i + length u) v
-put-append m i [] v = ap (λ (k : ℕ). put m k v) (sym (add-zero i))
-put-append m i (w ∷ u) v =
-    let place : i + 1 + length u ≡ i + suc (length u) = omega arith in
-    put-append (set m i w) (i + 1) u v ∙ ap (λ (k : ℕ). put (put (set m i w) (i + 1) u) k v) place
+-- ---- fields and then more fields
 
 total-append : (u v : List ℕ) → total (u ++ v) ≡ total u + total v
 total-append [] v = omega arith
 total-append (w ∷ u) v = omega (arith, total-append u v)
 
--- fields and then more fields
 pub advance-append : (u v : List ℕ) (π : Plan) → advance (u ++ v) π ≡ advance v (advance u π)
 unfolding advance
 advance-append u v π =
     let bits : π .at + total (u ++ v) ≡ π .at + total u + total v = omega (arith, total-append u v) in
     let count : π .number + length (u ++ v) ≡ π .number + length u + length v = omega (arith, length-append u v) in
-    let memory : put (π .widths) (π .number) (u ++ v) ≡ put (put (π .widths) (π .number) u) (π .number + length u) v =
-    put-append (π .widths) (π .number) u v in
+    let memory : sets (π .widths) (π .number) (u ++ v) ≡ sets (sets (π .widths) (π .number) u) (π .number + length u) v =
+    sets-append (π .widths) (π .number) u v in
     λ i. record { at = bits i; number = count i; widths = memory i }
 
 pub advance-none : (π : Plan) → advance [] π ≡ π
@@ -132,7 +125,7 @@ module _ (v : Source) where
             let told : Tells v i (σ .number) u =
             subst (λ (n : ℕ). Tells v i n u) count (subst (λ (p : ℕ). Tells v p (π .number + length t) u) (sym (a .far)) (parts .1)) in
             let room : σ .number + length u ≤ length (σ .widths) =
-            omega (arith, length-put (π .widths) (π .number) (traceWidths t), length-widths t, length-append t u, r) in
+            omega (arith, length-sets (π .widths) (π .number) (traceWidths t), length-widths t, length-append t u, r) in
             ap h (a .on π e (parts .0) (omega (arith, length-append t u, r)))
             ∙ b .on σ (after-trace t π e (a .far)) told room
             ∙ sym (advance-append (traceWidths t) (traceWidths u) π)

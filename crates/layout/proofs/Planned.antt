@@ -8,6 +8,7 @@ use Prim.Native.String.{String}
 use native.Mathlib.Omega.{arith}
 use lib.ListN as ListN
 use lib.ListN.{length, drop, length-append}
+use lib.Seq.{sets, length-sets}
 use lib.Dec.{leb, ltb, eqb}
 use lib.Text.{eqt}
 use borrow.Author.Tests.{leb-true, le-leb}
@@ -20,8 +21,7 @@ use Rattle.grammar.proofs.Endless.{endless}
 use Rattle.grammar.proofs.Ends.{Gives, gives, given, when-gives, then-gives, after-gives, covers, ends-within}
 use Rattle.grammar.proofs.Readings.{Reads, rows-parts, arm-parts, under-parts}
 use Rattle.grammar.proofs.Scope.{Agree, scoped, same-read}
-use Rattle.fields.proofs.Room.{length-put}
-use Rattle.fields.specs.Fields.{Source, source, Plan, total, put, advance, laid, names, timesOn, walk}
+use Rattle.fields.specs.Fields.{Source, source, Plan, total, advance, laid, names, timesOn, walk}
 use Rattle.layout.specs.Layout.{headerWidths, begun, opening, left, rest, planOf}
 use Rattle.layout.proofs.Follows.{traceWidths, widths-append, length-widths, total-size, advance-append, advance-none, laid-all, Tells, tells-parts, lays-trace}
 use Rattle.layout.proofs.Shape.{any-end}
@@ -38,7 +38,7 @@ unfolding timesOn advance
 times-eights zero π h = sym (advance-none π)
 times-eights (suc n) π h =
     let σ : Plan = advance (8 ∷ []) π in
-    let room : σ .number + n ≤ length (σ .widths) = omega (arith, length-put (π .widths) (π .number) (8 ∷ [])) in
+    let room : σ .number + n ≤ length (σ .widths) = omega (arith, length-sets (π .widths) (π .number) (8 ∷ [])) in
     ap (timesOn n (laid (8 ∷ []))) (laid-all (8 ∷ []) π (omega arith)) ∙ times-eights n σ room ∙ sym (advance-append (8 ∷ []) (eights n) π)
 
 -- what is read up to the end is bytes, and all of them
@@ -119,7 +119,7 @@ pub record Told (s s′ x : List ℕ) (u : Trace) : Type 0 where
 
 -- after the header's fields, where there is room for them
 abbrev pub start : List ℕ → Plan
-start m = record { at = 104; number = 11; widths = put m 0 headerWidths }
+start m = record { at = 104; number = 11; widths = sets m 0 headerWidths }
 
 begun-start : (m : List ℕ) → 11 ≤ length m → begun m ≡ start m
 unfolding begun advance
@@ -171,7 +171,7 @@ module _ (s s′ x m : List ℕ) where
           → planOf s′ x m ≡ advance (traceWidths u) (start m)
       sealed-plan j q inside e =
           opens true e
-          ∙ last-bytes "sealed_byte" known 104 j u (start m) q inside refl refl (omega (arith, length-put m 0 headerWidths))
+          ∙ last-bytes "sealed_byte" known 104 j u (start m) q inside refl refl (omega (arith, length-sets m 0 headerWidths))
 
       -- the parts of an unsealed section after its header: type, command, loop, stuffing
       abbrev typed : Env
@@ -219,9 +219,9 @@ module _ (s s′ x m : List ℕ) where
             let σ1 : Plan = advance (8 ∷ []) (start m) in
             let σ2 : Plan = advance (traceWidths command) σ1 in
             let σ3 : Plan = advance (traceWidths loop) σ2 in
-            let m1 : length (σ1 .widths) ≡ length m = length-put (start m .widths) 11 (8 ∷ []) ∙ length-put m 0 headerWidths in
-            let m2 : length (σ2 .widths) ≡ length m = length-put (σ1 .widths) 12 (traceWidths command) ∙ m1 in
-            let m3 : length (σ3 .widths) ≡ length m = length-put (σ2 .widths) (σ2 .number) (traceWidths loop) ∙ m2 in
+            let m1 : length (σ1 .widths) ≡ length m = length-sets (start m .widths) 11 (8 ∷ []) ∙ length-sets m 0 headerWidths in
+            let m2 : length (σ2 .widths) ≡ length m = length-sets (σ1 .widths) 12 (traceWidths command) ∙ m1 in
+            let m3 : length (σ3 .widths) ≡ length m = length-sets (σ2 .widths) (σ2 .number) (traceWidths loop) ∙ m2 in
             let k-far : k ≡ 112 + size command = covers sized-command typed (bit s) end 112 k command (q .reads) in
             let i-far : i ≡ k + size loop = covers descriptor-loop typed (bit s) end k i loop (r .reads) in
             let k-in = ends-within sized-command typed (bit s) end 112 k command (q .reads) inside in
@@ -232,7 +232,7 @@ module _ (s s′ x m : List ℕ) where
             let n3 : σ3 .number ≡ 12 + length command + length loop = omega (arith, length-widths loop, n2) in
             let told2 : Tells v k (σ2 .number) loop =
             subst (λ (n : ℕ). Tells v k n loop) (sym n2) (subst (λ (p : ℕ). Tells v p (12 + length command) loop) (sym k-far) (t3 .0)) in
-            let first : laid (8 ∷ []) (start m) ≡ σ1 = laid-all (8 ∷ []) (start m) (omega (arith, length-put m 0 headerWidths, count)) in
+            let first : laid (8 ∷ []) (start m) ≡ σ1 = laid-all (8 ∷ []) (start m) (omega (arith, length-sets m 0 headerWidths, count)) in
             let second : walk sized-command two v 0 σ1 ≡ σ2 =
             after-π sized-command two 112 k command σ1 (seen sized-command 112 k command sized-seen q) sized-endless refl (t2 .0) (omega (arith, m1, count)) in
             let third : walk descriptor-loop two v 0 σ2 ≡ σ3 =

@@ -1,11 +1,10 @@
 // Bytes put into lent memory.
 ghost use mathlib.Core.Path.{_≡_};
-ghost use lib.ListN.{length};
-ghost use Rattle.lent.specs.Lent.{fits, putInto};
+ghost use Rattle.units.specs.Put.{fits, putInto};
 
 // Puts the bytes into the memory from place `at` on, and says whether it did: where they do not all fit, nothing changes.
 pub fn put(bytes: &[u8], memory: &mut [u8], at: usize) -> bool
-    ensures { λ r. ⌜ (r ≡ fits (length (now (bytes .entry))) at (now (memory .entry))) × (now (memory .exit) ≡ putInto (now (bytes .entry)) at (now (memory .entry))) ⌝ }
+    ensures { λ r. ⌜ (r ≡ fits (now (memory .entry)) at (now (bytes .entry))) × (now (memory .exit) ≡ putInto (now (memory .entry)) at (now (bytes .entry))) ⌝ }
 {
     if memory.len() < at {
         return false;

@@ -5,8 +5,7 @@ use mathlib.Core.Bool.{cond, _&&_}
 use mathlib.Core.List.{List}
 use lib.Dec.{ltb}
 use Rattle.bits.specs.Bits.{fieldOf, flagOf}
-use Rattle.units.specs.declared.clock.EventId.{EventId}
-use Rattle.units.specs.Clock.{ticks}
+use Rattle.units.specs.Clock.{ticks, eventId}
 use Rattle.grammar.specs.Meaning.{isAmong}
 use Rattle.grammar.specs.Tables.{sub-segmented}
 use Rattle.segmentation_reading.specs.declared.answers.Mode.{Mode}
@@ -14,10 +13,6 @@ use Rattle.segmentation_reading.specs.declared.answers.Delivery.{Deliver
 use Rattle.segmentation_reading.specs.declared.answers.Duration.{Duration}
 use Rattle.segmentation_reading.specs.declared.answers.SubSegments.{SubSegments}
 use Rattle.segmentation_reading.specs.declared.answers.Segmentation.{Segmentation}
-
--- a number as an event's id
-abbrev pub eventId : ℕ → EventId
-eventId n = record { 0 = n }
 
 -- ---- by the byte `at` after the identifier
 

@@ -14,8 +14,8 @@ use Rattle.units.specs.declared.refusals.Refusal.the-variants.{Room, Sheet}
 use Rattle.units.specs.declared.refusals.Written.{Written}
 use Rattle.units.specs.declared.refusals.Written.the-variants.{Count, Refused}
 use Rattle.units.specs.Answers.{answer, memory}
-use Rattle.lent.specs.Lent.{fits, putInto}
-use Rattle.lent.proofs.Room.{at-front, unchanged}
+use Rattle.units.specs.Put.{fits, putInto}
+use Rattle.units.proofs.Put.{at-front, unchanged}
 use Rattle.section.specs.declared.Verdict.{Verdict}
 use Rattle.section.specs.declared.Verdict.the-variants.{Accepted}
 use Rattle.section.specs.Accept.{acceptRow, verdict, acceptOf}
@@ -105,12 +105,12 @@ module _ (x s out : List ℕ) where
   section-written e h = judged 0 (ap₂ (λ (t u : Bool). cond (not t) 15 (cond u 11 0)) e (le-ltb _ _ h))
 
   -- by what `lent::put` says of the section's bytes
-  pub put-nowhere : isSheetOf x s ≡ true → (p : List ℕ) → p ≡ s → fits (length p) 0 out ≡ false → Judged x s out (Refused Room) (putInto p 0 out)
+  pub put-nowhere : isSheetOf x s ≡ true → (p : List ℕ) → p ≡ s → fits out 0 p ≡ false → Judged x s out (Refused Room) (putInto out 0 p)
   put-nowhere e p q h =
       let is = no-room-for e (omega (arith, leb-false (0 + length p) (length out) h, ap length q)) in
-      record { answers = is .answers; holds = unchanged p 0 out h ∙ is .holds }
+      record { answers = is .answers; holds = unchanged out 0 p h ∙ is .holds }
 
-  pub put-there : isSheetOf x s ≡ true → (p : List ℕ) → p ≡ s → fits (length p) 0 out ≡ true → Judged x s out (Count (length s)) (putInto p 0 out)
+  pub put-there : isSheetOf x s ≡ true → (p : List ℕ) → p ≡ s → fits out 0 p ≡ true → Judged x s out (Count (length s)) (putInto out 0 p)
   put-there e p q h =
       let is = section-written e (omega (arith, leb-true (0 + length p) (length out) h, ap length q)) in
-      record { answers = is .answers; holds = at-front p out h ∙ ap (λ (l : List ℕ). l ++ drop (length l) out) q ∙ is .holds }
+      record { answers = is .answers; holds = at-front out p h ∙ ap (λ (l : List ℕ). l ++ drop (length l) out) q ∙ is .holds }

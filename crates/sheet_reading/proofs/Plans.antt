@@ -5,11 +5,11 @@ use mathlib.Core.Path.{_≡_, refl, sym, ap, ap₂, _∙_, subst}
 use mathlib.Core.Bool.{Bool, cond}
 use mathlib.Core.List.{List, [], _∷_, _++_, append-assoc}
 use Prim.Native.Nat.{ℕ, zero, suc, _+_, _-_, _*_, _/_, _^_, _≤_, _<_}
-use native.Mathlib.Nat.{add-zero}
 use native.Mathlib.Omega.{arith}
-use lib.ListN.{length, getD, set, take, drop, length-append, length-set, take-append-drop}
-use lib.Seq.{take-suc, take-set-le, drop-set-lt, getD-set-same, take-append-seam, length-take-le}
+use lib.ListN.{length, getD, take, drop, length-append}
+use lib.Seq.{sets, sets-eq, take-append-seam, length-take-le}
 use borrow.Author.Tests.{ne-eqb, lt-ltb}
+use Rattle.units.proofs.Put.{sets-append}
 use Rattle.bits.specs.Bits.{bit, num, within, fieldOf, readAll}
 use Rattle.bits.proofs.Num.{num-lt}
 use Rattle.bits.proofs.Bytes.{bit-lt}
@@ -19,32 +19,15 @@ use Rattle.grammar.specs.Traces.{Trace, rowsOf, size, numbers, spans}
 use Rattle.fields.specs.declared.Place.{Place}
 use Rattle.section.specs.declared.Verdict.the-variants.{Accepted}
 use Rattle.section.specs.Accept.{acceptOf}
-use Rattle.fields.specs.Fields.{plan, held, source, Plan, total, put, advance}
+use Rattle.fields.specs.Fields.{plan, held, source, Plan, total, advance}
 use Rattle.layout.specs.Layout.{headerWidths, left, planOf}
-use Rattle.layout.proofs.Follows.{traceWidths, length-widths, total-size, put-append, Tells}
+use Rattle.layout.proofs.Follows.{traceWidths, length-widths, total-size, Tells}
 use Rattle.layout.proofs.Planned.{Told, start}
 use Rattle.layout.proofs.Shape.{Thin}
 use Rattle.sheet_reading.specs.SheetOf.{sheetOf}
 use Rattle.sheet_reading.proofs.Trace.{Whole, whole, after, first, last, body, sheet-numbers, first-spans, last-spans, first-thin, last-thin, body-spans, body-thin, body-size, last-size, sheet-length, body-length}
 
 -- ---- lists
-
--- numbers put at a place stand between what was before and what was after
-pub put-between : (m : List ℕ) (i : ℕ) (ws : List ℕ) → i + length ws ≤ length m → put m i ws ≡ take i m ++ (ws ++ drop (i + length ws) m)
-put-between m i [] h = sym (take-append-drop i m) ∙ ap (λ (n : ℕ). take i m ++ drop n m) (sym (add-zero i))
-put-between m i (w ∷ ws) h =
-    let m′ : List ℕ = set m i w in
-    let one : suc i ≡ i + 1 = omega arith in
-    let places : i + 1 + length ws ≡ i + suc (length ws) = omega arith in
-    let inside : i < length m = omega arith in
-    let front : take (i + 1) m′ ≡ take i m ++ (w ∷ []) =
-    ap (λ (n : ℕ). take n m′) (sym one) ∙ take-suc m′ i 0 (omega (arith, length-set m i w))
-    ∙ ap₂ (λ (a : List ℕ) (b : ℕ). a ++ (b ∷ [])) (take-set-le i m i w (omega arith)) (getD-set-same m i w 0 inside) in
-    let back : drop (i + 1 + length ws) m′ ≡ drop (i + suc (length ws)) m =
-    drop-set-lt (i + 1 + length ws) m i w (omega arith) ∙ ap (λ (n : ℕ). drop n m) places in
-    put-between m′ (i + 1) ws (omega (arith, length-set m i w))
-    ∙ ap₂ (λ (a b : List ℕ). a ++ (ws ++ b)) front back
-    ∙ append-assoc (take i m) (w ∷ []) (ws ++ drop (i + suc (length ws)) m)
 
 -- ---- fields that are there
 
@@ -152,8 +135,8 @@ module _ (s : List ℕ) (w : Whole s) where
         let ws : List ℕ = traceWidths (body s w) in
         let count : length (headerWidths ++ ws) ≡ 11 + length ws = omega arith in
         let place : 0 + length (headerWidths ++ ws) ≡ 11 + length ws = omega arith in
-        sym (put-append m 0 headerWidths ws)
-        ∙ put-between m 0 (headerWidths ++ ws) (omega (arith, count, length-widths (body s w), room))
+        sym (sets-append m 0 headerWidths ws)
+        ∙ sets-eq (headerWidths ++ ws) m 0 (omega (arith, count, length-widths (body s w), room))
         ∙ ap (λ (n : ℕ). (headerWidths ++ ws) ++ drop n m) place
 
     -- the widths before section_length, and those after it
@@ -213,7 +196,7 @@ length-read s k (w ∷ ws) = ap suc (length-read s (k + w) ws)
 
 -- the fields before section_length and those after it, put into the same places, are the sheet in front of the memory
 pub sheet-put : (s m : List ℕ) {p : Place} {ws : List ℕ} (out : List ℕ) → 4 ≤ length ws → Laid s m p ws → p .number ≤ length out
-    → put (put out 0 (readAll s 0 (take 4 ws))) 4 (readAll s 24 (take (p .number - 4) (drop 4 ws))) ≡ sheetOf s ++ drop (length (sheetOf s)) out
+    → sets (sets out 0 (readAll s 0 (take 4 ws))) 4 (readAll s 24 (take (p .number - 4) (drop 4 ws))) ≡ sheetOf s ++ drop (length (sheetOf s)) out
 sheet-put s m {p} {ws} out enough l room =
     let a : List ℕ = readAll s 0 (take 4 ws) in
     let b : List ℕ = readAll s 24 (take (p .number - 4) (drop 4 ws)) in
@@ -221,7 +204,7 @@ sheet-put s m {p} {ws} out enough l room =
     let place : 0 + length a ≡ 4 = omega (arith, four) in
     let all : length (a ++ b) ≡ length (sheetOf s) = ap length (sym (l .reads)) in
     let start : 0 + length (a ++ b) ≡ length (sheetOf s) = omega (arith, all) in
-    ap (λ (k : ℕ). put (put out 0 a) k b) (sym place)
-    ∙ sym (put-append out 0 a b)
-    ∙ put-between out 0 (a ++ b) (omega (arith, all, l .number))
+    ap (λ (k : ℕ). sets (sets out 0 a) k b) (sym place)
+    ∙ sym (sets-append out 0 a b)
+    ∙ sets-eq (a ++ b) out 0 (omega (arith, all, l .number))
     ∙ ap₂ (λ (l : List ℕ) (k : ℕ). l ++ drop k out) (sym (l .reads)) start

@@ -2,10 +2,10 @@
 ghost use mathlib.Core.Path.{_≡_};
 ghost use Prim.Native.Nat.{_-_, _*_, _≤_};
 ghost use lib.ListN.{length, take, drop};
+ghost use lib.Seq.{sets};
 ghost use Rattle.section.specs.declared.Verdict.the-variants.{Accepted};
 ghost use Rattle.section.specs.Accept.{acceptOf};
 ghost use Rattle.bits.specs.Bits.{readAll};
-ghost use Rattle.fields.specs.Fields.{put};
 ghost use Rattle.sheet_reading.specs.SheetOf.{toSheet, toSheetInto};
 use section::Verdict;
 use units::Refusal;
@@ -46,7 +46,7 @@ fn numbers(section: &[u8], widths: &mut [u8], out: &mut [u64]) -> Written
 // The values of the fields `from` to `to` of a section, the first of them at bit `at`, put into the same places of out.
 fn read_fields(section: &[u8], widths: &[u8], from: usize, to: usize, at: usize, out: &mut [u64])
     requires { ⌜ (from ≤ to) × (to ≤ length (now widths)) × (to ≤ length (now out)) × (to ≤ 32768) × (at ≤ 24) ⌝ }
-    ensures { λ _. ⌜ now (out .exit) ≡ put (now (out .entry)) from (readAll (now (section .entry)) at (take (to - from) (drop from (now (widths .entry))))) ⌝ }
+    ensures { λ _. ⌜ now (out .exit) ≡ sets (now (out .entry)) from (readAll (now (section .entry)) at (take (to - from) (drop from (now (widths .entry))))) ⌝ }
 {
     let mut place = at;
     for i in from..to {

@@ -15,8 +15,8 @@ use Rattle.units.specs.declared.refusals.Refusal.the-variants.{Room}
 use Rattle.units.specs.declared.refusals.Written.the-variants.{Count, Refused}
 use Rattle.units.specs.Refusals.{numberOf}
 use Rattle.units.specs.Answers.{answer, memory}
-use Rattle.lent.specs.Lent.{fits, putInto}
-use Rattle.lent.proofs.Room.{at-front, unchanged}
+use Rattle.units.specs.Put.{fits, putInto}
+use Rattle.units.proofs.Put.{at-front, unchanged}
 use Rattle.spelling.specs.declared.Line.{Line}
 use Rattle.spelling.specs.Spelling.{digits, numbered, spelled, spellRow, spellAnswer, spellInto}
 use Rattle.spelling.proofs.Digits.{few}
@@ -50,17 +50,17 @@ module _ (line : Line) (out : List ℕ) where
   written h = by-room false (le-ltb _ _ h)
 
   -- by what `lent::put` says of the line's characters
-  pub put-there : (p : List ℕ) → p ≡ spelled line → fits (length p) 0 out ≡ true
-      → (Count (length (spelled line)) ≡ spellAnswer line out) × (putInto p 0 out ≡ spellInto line out)
+  pub put-there : (p : List ℕ) → p ≡ spelled line → fits out 0 p ≡ true
+      → (Count (length (spelled line)) ≡ spellAnswer line out) × (putInto out 0 p ≡ spellInto line out)
   put-there p e h =
       let is = written (omega (arith, leb-true (0 + length p) (length out) h, ap length e)) in
-      (is .0, at-front p out h ∙ ap (λ (x : List ℕ). x ++ drop (length x) out) e ∙ is .1)
+      (is .0, at-front out p h ∙ ap (λ (x : List ℕ). x ++ drop (length x) out) e ∙ is .1)
 
-  pub put-nowhere : (p : List ℕ) → p ≡ spelled line → fits (length p) 0 out ≡ false
-      → (Refused Room ≡ spellAnswer line out) × (putInto p 0 out ≡ spellInto line out)
+  pub put-nowhere : (p : List ℕ) → p ≡ spelled line → fits out 0 p ≡ false
+      → (Refused Room ≡ spellAnswer line out) × (putInto out 0 p ≡ spellInto line out)
   put-nowhere p e h =
       let is = no-room (omega (arith, leb-false (0 + length p) (length out) h, ap length e)) in
-      (is .0, unchanged p 0 out h ∙ is .1)
+      (is .0, unchanged out 0 p h ∙ is .1)
 
   -- and the other way round: what the answer says of the room and of the memory
   pub spell-refused : (r : Refusal) → spellAnswer line out ≡ Refused r → (length out < length (spelled line)) × (spellInto line out ≡ out)

@@ -1,14 +1,37 @@
--- Numbers or characters put into a list from a place on: one part after another, the room that is left, and what then stands in
--- front.
+-- Bytes, characters or numbers put into a list from a place on: by the room that there is, one part after another, and what then
+-- stands in front.
 -- Assumes nothing.
 use mathlib.Core.Path.{_≡_, sym, ap, ap₂, _∙_, subst}
+use mathlib.Core.Bool.{Bool, true, false, cond}
 use mathlib.Core.List.{List, [], _∷_, _++_}
 use Prim.Native.Nat.{ℕ, suc, _+_, _≤_}
 use native.Mathlib.Nat.{add-zero}
 use native.Mathlib.Omega.{arith}
 use lib.ListN.{length, set, take, drop, length-append}
 use lib.Seq.{sets, sets-eq, length-sets, length-take-le, take-append-seam}
-use Rattle.units.specs.Put.{Put}
+use borrow.Author.Tests.{leb-true}
+use Rattle.units.specs.Put.{fits, putInto, Put}
+
+-- ---- by the room that there is
+
+module _ (m : List ℕ) (i : ℕ) (ns : List ℕ) where
+  pub all-put : fits m i ns ≡ true → putInto m i ns ≡ sets m i ns
+  unfolding putInto
+  all-put h = ap (λ (t : Bool). cond t (sets m i ns) m) h
+
+  pub unchanged : fits m i ns ≡ false → putInto m i ns ≡ m
+  unfolding putInto
+  unchanged h = ap (λ (t : Bool). cond t (sets m i ns) m) h
+
+  -- what stands before and after them is as it was
+  pub put-between : fits m i ns ≡ true → putInto m i ns ≡ take i m ++ ns ++ drop (i + length ns) m
+  put-between h = all-put h ∙ sets-eq ns m i (leb-true (i + length ns) (length m) h)
+
+-- at the front: these, and then everything after them as it was
+pub at-front : (m ns : List ℕ) → fits m 0 ns ≡ true → putInto m 0 ns ≡ ns ++ drop (length ns) m
+at-front m ns h =
+    let front : 0 + length ns ≡ length ns = omega arith in
+    put-between m 0 ns h ∙ ap (λ (k : ℕ). ns ++ drop k m) front
 
 -- ---- parts
 
@@ -16,7 +39,8 @@ use Rattle.units.specs.Put.{Put}
 pub told : {m : List ℕ} {i : ℕ} {ns us : List ℕ} {j : ℕ} {l : List ℕ} → ns ≡ us → Put m i ns j l → Put m i us j l
 told {m} {i} {j = j} {l = l} e p = subst (λ (ns : List ℕ). Put m i ns j l) e p
 
-sets-append : (m : List ℕ) (i : ℕ) (u v : List ℕ) → sets m i (u ++ v) ≡ sets (sets m i u) (i + length u) v
+-- two parts at once are one after another
+pub sets-append : (m : List ℕ) (i : ℕ) (u v : List ℕ) → sets m i (u ++ v) ≡ sets (sets m i u) (i + length u) v
 sets-append m i [] v = ap (λ (k : ℕ). sets m k v) (sym (add-zero i))
 sets-append m i (n ∷ u) v =
     let place : suc i + length u ≡ i + suc (length u) = omega arith in

@@ -8,6 +8,7 @@ use Prim.Native.Nat.{ℕ, _+_, _≤_, _<_}
 use lib.ListN.{length}
 use lib.Seq.{sets}
 use borrow.Author.Tests.{le-leb, lt-leb}
+use Rattle.units.proofs.Put.{all-put, unchanged}
 use Rattle.wire.specs.Put.{fits, putPlace, putInto, Put}
 
 -- the same numbers are put alike
@@ -18,15 +19,19 @@ put-as m i e p = (p .0 ∙ ap (putPlace m i) e, p .1 ∙ ap (putInto m i) e)
 -- ---- with too little room, and with enough
 
 module _ (m : List ℕ) (i : ℕ) (ns : List ℕ) where
-  by-room : (b : Bool) → fits m i ns ≡ b → (cond b (i + length ns) i ≡ putPlace m i ns) × (cond b (sets m i ns) m ≡ putInto m i ns)
-  unfolding putPlace putInto
-  by-room b e = (ap (λ (t : Bool). cond t (i + length ns) i) (sym e), ap (λ (t : Bool). cond t (sets m i ns) m) (sym e))
+  by-room : (b : Bool) → fits m i ns ≡ b → cond b (i + length ns) i ≡ putPlace m i ns
+  unfolding putPlace
+  by-room b e = ap (λ (t : Bool). cond t (i + length ns) i) (sym e)
 
   pub left-out : length m < i + length ns → (i ≡ putPlace m i ns) × (m ≡ putInto m i ns)
-  left-out h = by-room false (lt-leb _ _ h)
+  left-out h =
+      let no = lt-leb _ _ h in
+      (by-room false no, sym (unchanged m i ns no))
 
   pub put-there : i + length ns ≤ length m → (i + length ns ≡ putPlace m i ns) × (sets m i ns ≡ putInto m i ns)
-  put-there h = by-room true (le-leb _ _ h)
+  put-there h =
+      let yes = le-leb _ _ h in
+      (by-room true yes, sym (all-put m i ns yes))
 
 -- a caller that has room has the numbers in its list
 pub stands : {m : List ℕ} {i : ℕ} {ns : List ℕ} {j : ℕ} {l : List ℕ} → i + length ns ≤ length m → (j ≡ putPlace m i ns) × (l ≡ putInto m i ns)

@@ -6,16 +6,16 @@ use mathlib.Core.List.{List, [], _∷_}
 use Prim.Native.Nat.{ℕ, suc, _+_, _-_, _*_, _≤_, _<_}
 use native.Mathlib.Omega.{arith}
 use lib.ListN.{length, getD, set, drop, length-set}
-use lib.Seq.{drop-cons, drop-length}
+use lib.Seq.{sets, drop-cons, drop-length}
 use borrow.Author.Needs.{needs}
 use borrow.Author.Tests.{le-leb, lt-leb}
-use Rattle.fields.specs.Fields.{Plan, total, put, advance, laid, plan}
+use Rattle.fields.specs.Fields.{Plan, total, advance, laid, plan}
 use Rattle.fields.proofs.lay.Statement.{statement}
 use Rattle.fields.proofs.lay.Tie as tie
 
 abbrev Inv-loop : tie.InvT-loop
 Inv-loop widths₀ more number at₀ i₀ i-end widths at i =
-    (i ≤ length more) × (length widths ≡ length widths₀) × (put widths (number + i) (drop i more) ≡ put widths₀ number more)
+    (i ≤ length more) × (length widths ≡ length widths₀) × (sets widths (number + i) (drop i more) ≡ sets widths₀ number more)
     × (at + total (drop i more) ≡ at₀ + total more) × (at ≤ at₀ + 255 * i)
 
 abbrev μ-loop : tie.MeasureT-loop
@@ -39,7 +39,7 @@ loop-holds : tie.Need-loop-holds Inv-loop μ-loop
 loop-holds c =
     let a = c .before .args in
     let here : a .p .number + 0 ≡ a .p .number = omega arith in
-    (omega arith, refl, ap (λ (k : ℕ). put (a .widths .now) k (a .more .now)) here, refl, omega arith)
+    (omega arith, refl, ap (λ (k : ℕ). sets (a .widths .now) k (a .more .now)) here, refl, omega arith)
 
 shared-slice-read-widths : tie.Need-shared-slice-read-widths Inv-loop μ-loop
 shared-slice-read-widths c = omega arith
@@ -71,11 +71,11 @@ loop-again c =
     let a = c .before .before .before .before .before .args in
     let w : ℕ = getD (a .more .now) (l .i) 0 in
     let next : drop (l .i) (a .more .now) ≡ w ∷ drop (l .i + 1) (a .more .now) = drop-next (a .more .now) (l .i) (omega arith) in
-    let place : a .p .number + l .i + 1 ≡ a .p .number + (l .i + 1) = omega arith in (
+    let place : suc (a .p .number + l .i) ≡ a .p .number + (l .i + 1) = omega arith in (
       omega arith,
       length-set (l .widths) (a .p .number + l .i) w ∙ l .inv .1,
-      ap (λ (k : ℕ). put (set (l .widths) (a .p .number + l .i) w) k (drop (l .i + 1) (a .more .now))) (sym place)
-          ∙ ap (put (l .widths) (a .p .number + l .i)) (sym next)
+      ap (λ (k : ℕ). sets (set (l .widths) (a .p .number + l .i) w) k (drop (l .i + 1) (a .more .now))) (sym place)
+          ∙ ap (sets (l .widths) (a .p .number + l .i)) (sym next)
           ∙ l .inv .2,
       omega (arith, ap total next, l .inv .3),
       omega (arith, c .before .shared-slice-known .given (l .i), l .inv .4),
@@ -95,8 +95,8 @@ returns-2 c =
     let all : l .i ≡ length (a .more .now) = omega arith in
     let over : drop (l .i) (a .more .now) ≡ [] = ap (λ (k : ℕ). drop k (a .more .now)) all ∙ drop-length (a .more .now) in
     let bits : l .at ≡ a .p .at + total (a .more .now) = omega (arith, l .inv .3, ap total over) in
-    let memory : l .widths ≡ put (a .widths .now) (a .p .number) (a .more .now) =
-    sym (ap (put (l .widths) (a .p .number + l .i)) over) ∙ l .inv .2 in
+    let memory : l .widths ≡ sets (a .widths .now) (a .p .number) (a .more .now) =
+    sym (ap (sets (l .widths) (a .p .number + l .i)) over) ∙ l .inv .2 in
     let fits : a .p .number + length (a .more .now) ≤ length (a .widths .now) = omega arith in
     let π : Plan = plan (a .p) (a .widths .now) in (
       ap₂ (λ (k : ℕ) (m : List ℕ). record { at = k; number = a .p .number + length (a .more .now); widths = m }) bits memory

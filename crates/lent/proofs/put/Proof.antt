@@ -7,9 +7,9 @@ use Prim.Native.Nat.{ℕ, suc, _+_, _-_, _≤_, _<_}
 use native.Mathlib.Omega.{arith}
 use lib.ListN.{length, getD, set, take, drop, length-set}
 use lib.Seq.{paste, paste-zero, paste-suc, take-length}
-use Rattle.lent.specs.Lent.{fits, putInto}
 use borrow.Author.Tests.{le-leb, lt-leb}
-use Rattle.lent.proofs.Room.{put, unchanged}
+use Rattle.units.specs.Put.{fits, putInto}
+use Rattle.units.proofs.Put.{unchanged, put-between}
 use Rattle.lent.proofs.put.Statement.{statement}
 use Rattle.lent.proofs.put.Tie as tie
 
@@ -21,10 +21,10 @@ abbrev μ-loop : tie.MeasureT-loop
 μ-loop bytes memory₀ at i₀ i-end memory i = length bytes - i
 
 refused : (bytes : List ℕ) (at : ℕ) (memory : List ℕ) → length memory < at + length bytes
-    → (false ≡ fits (length bytes) at memory) × (memory ≡ putInto bytes at memory)
+    → (false ≡ fits memory at bytes) × (memory ≡ putInto memory at bytes)
 refused bytes at memory h =
     let none = lt-leb (at + length bytes) (length memory) h in
-    (sym none, sym (unchanged bytes at memory none))
+    (sym none, sym (unchanged memory at bytes none))
 
 returns : tie.Need-returns Inv-loop μ-loop
 returns c =
@@ -86,7 +86,7 @@ returns-3 c =
       loop .inv .2
           ∙ ap (paste (a .memory .now) (a .at) (a .bytes .now)) all
           ∙ ap (λ (x : List ℕ). take (a .at) (a .memory .now) ++ x ++ rest) (take-length (a .bytes .now))
-          ∙ sym (put (a .bytes .now) (a .at) (a .memory .now) fit),
+          ∙ sym (put-between (a .memory .now) (a .at) (a .bytes .now) fit),
     )
 
 pub put-spec : {M : Type 1} → statement M

@@ -4,9 +4,10 @@ use mathlib.Core.Path.{_≡_, ap, ap₂, _∙_}
 use mathlib.Core.List.{List}
 use Prim.Native.Nat.{ℕ, _+_, _*_, _≤_, _<_}
 use native.Mathlib.Omega.{arith}
+use Rattle.units.specs.Clock.{eventId}
 use Rattle.bits.specs.Bits.{fieldOf}
 use Rattle.bits.proofs.Fields.{field-lt}
-use Rattle.segmentation_reading.specs.Places.{eventId, upidPlace, afterUpid, subSegmentsAt, uncancelledAt}
+use Rattle.segmentation_reading.specs.Places.{upidPlace, afterUpid, subSegmentsAt, uncancelledAt}
 use Rattle.segmentation_reading.proofs.Room.{upid-room}
 use borrow.Author.Needs.{needs}
 use Rattle.segmentation_reading.proofs.uncancelled.Statement.{statement}

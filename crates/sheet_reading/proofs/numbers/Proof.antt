@@ -5,9 +5,9 @@ use mathlib.Core.List.{List}
 use Prim.Native.Nat.{ℕ, _-_}
 use native.Mathlib.Omega.{arith}
 use lib.ListN.{length, take, drop}
+use lib.Seq.{sets}
 use Rattle.bits.specs.Bits.{readAll}
 use Rattle.units.specs.declared.refusals.Written.the-variants.{Count}
-use Rattle.fields.specs.Fields.{put}
 use Rattle.sheet_reading.proofs.Plans.{Laid, laid-out, sheet-put}
 use Rattle.sheet_reading.proofs.SheetRows.{no-room, sheet-written}
 use borrow.Author.Needs.{needs}
@@ -69,7 +69,7 @@ returns-2 c =
     let written = sheet-written (s .args .section .now) (s .args .out .now) (s .pre .0) (omega (arith, laid .number, if1 .left)) in (
       ap Count (laid .number) ∙ written .0,
       read-fields2 .ensures
-          ∙ ap (λ (m : List ℕ). put m 4 (readAll (s .args .section .now) 24 (take (plan .result .number - 4) (drop 4 (plan .last .1 .1 .0))))) (read-fields .ensures)
+          ∙ ap (λ (m : List ℕ). sets m 4 (readAll (s .args .section .now) 24 (take (plan .result .number - 4) (drop 4 (plan .last .1 .1 .0))))) (read-fields .ensures)
           ∙ sheet-put (s .args .section .now) (s .args .widths .now) (s .args .out .now) (omega (arith, laid .enough, laid .inside, widths .given)) laid (if1 .left)
           ∙ written .1,
     )

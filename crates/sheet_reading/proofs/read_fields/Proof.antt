@@ -1,12 +1,12 @@
 -- `sheet_reading::read_fields` meets its contract. The loop's invariant: putting the fields that are left gives what putting all of them gives.
 -- Assumes nothing.
-use mathlib.Core.Path.{_≡_, refl, sym, ap, _∙_}
+use mathlib.Core.Path.{_≡_, refl, sym, ap, ap₂, _∙_}
 use mathlib.Core.List.{List, _∷_}
-use Prim.Native.Nat.{ℕ, _+_, _-_, _*_, _≤_}
+use Prim.Native.Nat.{ℕ, suc, _+_, _-_, _*_, _≤_}
 use native.Mathlib.Omega.{arith}
 use lib.ListN.{length, getD, set, length-set}
+use lib.Seq.{sets}
 use Rattle.bits.specs.Bits.{readAll}
-use Rattle.fields.specs.Fields.{put}
 use Rattle.sheet_reading.proofs.Spans.{span, span-next, span-none}
 use Rattle.sheet_reading.proofs.read_fields.Statement.{statement}
 use Rattle.sheet_reading.proofs.read_fields.Tie as tie
@@ -14,7 +14,7 @@ use Rattle.sheet_reading.proofs.read_fields.Tie as tie
 abbrev Inv-loop : tie.InvT-loop
 Inv-loop section widths from to at out₀ place₀ i₀ out place i =
     (from ≤ i) × (i ≤ to) × (length out ≡ length out₀) × (place ≤ at + 255 * (i - from))
-    × (put out i (readAll section place (span i to widths)) ≡ put out₀ from (readAll section at (span from to widths)))
+    × (sets out i (readAll section place (span i to widths)) ≡ sets out₀ from (readAll section at (span from to widths)))
 
 abbrev μ-loop : tie.MeasureT-loop
 μ-loop section widths from to at out₀ place₀ i₀ out place i = to - i
@@ -55,13 +55,14 @@ loop-again c =
     let w : ℕ = getD (a .widths .now) (loop .i) 0 in
     let rest : List ℕ = readAll (a .section .now) (loop .place + w) (span (loop .i + 1) (a .to) (a .widths .now)) in
     let next : span (loop .i) (a .to) (a .widths .now) ≡ w ∷ span (loop .i + 1) (a .to) (a .widths .now) =
-    span-next (loop .i) (a .to) (a .widths .now) (omega arith) (omega arith) in (
+    span-next (loop .i) (a .to) (a .widths .now) (omega arith) (omega arith) in
+    let one : loop .i + 1 ≡ suc (loop .i) = omega arith in (
       omega arith,
       omega arith,
       length-set (loop .out) (loop .i) (read .result) ∙ loop .inv .2,
       omega (arith, c .before .shared-slice-known3 .given (loop .i)),
-      ap (λ (v : ℕ). put (set (loop .out) (loop .i) v) (loop .i + 1) rest) (read .ensures)
-          ∙ ap (λ (ws : List ℕ). put (loop .out) (loop .i) (readAll (a .section .now) (loop .place) ws)) (sym next)
+      ap₂ (λ (v k : ℕ). sets (set (loop .out) (loop .i) v) k rest) (read .ensures) one
+          ∙ ap (λ (ws : List ℕ). sets (loop .out) (loop .i) (readAll (a .section .now) (loop .place) ws)) (sym next)
           ∙ loop .inv .4,
     )
 
@@ -73,7 +74,7 @@ unfolding readAll
 returns c =
     let loop = c .before .loop in
     let a = c .before .before .before .before .before .args in
-    ap (λ (ws : List ℕ). put (loop .out) (loop .i) (readAll (a .section .now) (loop .place) ws))
+    ap (λ (ws : List ℕ). sets (loop .out) (loop .i) (readAll (a .section .now) (loop .place) ws))
     (sym (span-none (loop .i) (a .to) (a .widths .now) (omega arith)))
     ∙ loop .inv .4
 

@@ -3,9 +3,9 @@
 use mathlib.Core.Path.{sym, ap, _∙_}
 use Prim.Native.Nat.{_*_}
 use native.Mathlib.Omega.{arith}
+use Rattle.units.specs.Clock.{eventId}
 use Rattle.bits.proofs.Fields.{field-lt}
 use Rattle.command_reading.specs.declared.answers.Event.{Event}
-use Rattle.command_reading.specs.Command.{eventId}
 use Rattle.command_reading.specs.Places.{availsAt}
 use Rattle.command_events.specs.Places.{eventAt}
 use Rattle.command_reading.proofs.EventEnd.{avails-from}

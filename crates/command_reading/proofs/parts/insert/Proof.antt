@@ -2,9 +2,9 @@
 -- Assumes nothing.
 use mathlib.Core.Path.{sym, ap, _∙_}
 use native.Mathlib.Omega.{arith}
+use Rattle.units.specs.Clock.{eventId}
 use Rattle.bits.proofs.Fields.{field-lt}
 use Rattle.command_reading.specs.declared.answers.Command.{Command}
-use Rattle.command_reading.specs.Command.{eventId}
 use Rattle.command_reading.specs.Places.{availsAt, insertAt}
 use Rattle.command_reading.proofs.EventEnd.{avails-from}
 use borrow.Author.Needs.{needs}

@@ -4,8 +4,8 @@ use mathlib.Core.Path.{sym, ap, _∙_}
 use Prim.Native.Nat.{ℕ, _*_}
 use native.Mathlib.Omega.{arith}
 use borrow.Author.Needs.{needs}
+use Rattle.units.specs.Clock.{eventId}
 use Rattle.bits.proofs.Fields.{field-lt}
-use Rattle.segmentation_reading.specs.Places.{eventId}
 use Rattle.descriptor_reading.specs.declared.answers.Descriptor.{Descriptor}
 use Rattle.descriptor_reading.specs.Places.{segmentationAt}
 use Rattle.descriptor_reading.proofs.parts.segmentation.Statement.{statement}

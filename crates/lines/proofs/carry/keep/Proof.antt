@@ -6,7 +6,7 @@ use Prim.Native.Nat.{_+_}
 use native.Mathlib.Omega.{arith}
 use lib.ListN.{length}
 use borrow.Author.Tests.{le-leb}
-use Rattle.lent.proofs.Room.{put}
+use Rattle.units.proofs.Put.{put-between}
 use Rattle.lines.proofs.Holding.{fit, no-fit}
 use Rattle.lines.proofs.carry.keep.Statement.{statement}
 use Rattle.lines.proofs.carry.keep.Tie as tie
@@ -47,7 +47,7 @@ returns-4 c =
     let held = c .before .before .before .before .before .before .before .held .given in
     let kept = fit (a .held) (held .0 .0) (held .1) (a .carry .now) (a .part .now) (omega arith) in
     let room = le-leb (held .0 .0 + length (a .part .now)) (length (a .carry .now)) (omega arith) in
-    (kept .0, c .before .before .put .ensures .1 ∙ put (a .part .now) (held .0 .0) (a .carry .now) room ∙ kept .1)
+    (kept .0, c .before .before .put .ensures .1 ∙ put-between (a .carry .now) (held .0 .0) (a .part .now) room ∙ kept .1)
 
 pub keep-spec : {M : Type 1} → statement M
 keep-spec =

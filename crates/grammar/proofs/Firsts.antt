@@ -9,13 +9,13 @@ use native.Mathlib.Nat.{not-suc-le-zero}
 use native.Mathlib.Omega.{arith}
 use lib.Dec.{T}
 use lib.Text.{eqt, eqt→eq}
 use Rattle.grammar.specs.Syntax.{Prog}
 use Rattle.grammar.specs.Meaning.{Env, valueOf, Reading, broken, reached, then, again, read, ends, endOf}
 use Rattle.grammar.specs.Traces.{Trace}
 use Rattle.grammar.proofs.Readings.{then-parts}
 use Rattle.grammar.proofs.Run.{end-after}
 use Rattle.grammar.proofs.Scope.{scoped, Agree, same-read}
-use Rattle.command_reading.proofs.Shorter.{endless, shorter}
+use Rattle.grammar.proofs.Shorter.{straight, shorter}
 
 -- two environments that agree on one name
 pub agree-one : (n : String) (env env′ : Env) → valueOf env n ≡ valueOf env′ n → Agree (n ∷ []) env env′
@@ -26,7 +26,7 @@ agree-one n env env′ e m h = go (eqt n m) refl h
     go false q l = absurd (false≢true l)
 
 -- the list read anew, up to another end and with other names known
-pub anew : (p : Prog) (ns : List String) (env env′ : Env) → endless p ≡ true → scoped p ns ≡ true → Agree ns env′ env
+pub anew : (p : Prog) (ns : List String) (env env′ : Env) → straight p ≡ true → scoped p ns ≡ true → Agree ns env′ env
     → (f : ℕ → ℕ) (stop end c k j : ℕ) (t : Trace)
     → again c (λ i. read p env f stop i) k ≡ reached j t → j ≤ end → again c (λ i. read p env′ f end i) k ≡ reached j t
 anew p ns env env′ h l same f stop end c k j t e q =

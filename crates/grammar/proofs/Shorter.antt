@@ -1,4 +1,4 @@
--- A table that does not look for its end reads the same up to any end that is not before the place which it reached.
+-- A table of rows, choices by value and repeats alone reads the same up to any end that is not before the place which it reached.
 -- Assumes nothing.
 use mathlib.Core.Path.{_≡_, refl, sym, ap, _∙_}
 use mathlib.Core.Bool.{Bool, true, false, cond, _&&_, false≢true}
@@ -8,28 +8,23 @@ use native.Mathlib.Omega.{arith}
 use lib.Dec.{leb}
 use borrow.Author.Tests.{le-leb}
 use Rattle.bits.proofs.Cases.{and-left, and-right}
-use Rattle.grammar.specs.Syntax.{Test, Prog, is, among, more, done, stop, fields, branch, call, repeat, frame, fill, under}
+use Rattle.grammar.specs.Syntax.{Prog, done, stop, fields, branch, call, repeat, frame, fill, under}
 use Rattle.grammar.specs.Meaning.{Env, valueOf, width, values, bind, holds, Reading, broken, reached, after, then, again, read}
 use Rattle.grammar.specs.Traces.{Trace}
 use Rattle.grammar.proofs.Readings.{then-parts}
+use Rattle.grammar.proofs.Endless.{asksNoEnd, same-test}
 
--- the test looks at a value
-abbrev ofValue : Test → Bool
-ofValue (is n v) = true
-ofValue (among n vs) = true
-ofValue more = false
-
--- the table has rows, choices by value and repeats of a given number alone
-unfoldable pub endless : Prog → Bool
-endless done = true
-endless stop = true
-endless (fields rows p) = endless p
-endless (branch t a b p) = ofValue t && (endless a && (endless b && endless p))
-endless (call a p) = endless a && endless p
-endless (repeat n a p) = endless a && endless p
-endless (frame n a p) = false
-endless (fill a p) = false
-endless (under n a p) = false
+-- rows, choices by value and repeats of a given number alone: no part has an end of its own
+unfoldable pub straight : Prog → Bool
+straight done = true
+straight stop = true
+straight (fields rows p) = straight p
+straight (branch t a b p) = asksNoEnd t && (straight a && (straight b && straight p))
+straight (call a p) = straight a && straight p
+straight (repeat n a p) = straight a && straight p
+straight (frame n a p) = false
+straight (fill a p) = false
+straight (under n a p) = false
 
 -- where the reading r from place k reached a place, that is no earlier, and r′ reached it too if it is not past e
 abbrev Fits : ℕ → ℕ → Reading → Reading → Type 0
@@ -81,38 +76,33 @@ unfolding again
 fits-again e g g′ l zero k = fits-none e k
 fits-again e g g′ l (suc n) k = fits-then e k (g k) (g′ k) (again n g) (again n g′) (l k) (fits-again e g g′ l n)
 
-same-test : (t : Test) → ofValue t ≡ true → (env : Env) (end e k : ℕ) → holds t env end k ≡ holds t env e k
-same-test (is n v) h env end e k = refl
-same-test (among n vs) h env end e k = refl
-same-test more h env end e k = absurd (false≢true h)
-
-fits : (p : Prog) → endless p ≡ true → (env : Env) (f : ℕ → ℕ) (end e k : ℕ) → Fits e k (read p env f end k) (read p env f e k)
-unfolding endless read
+fits : (p : Prog) → straight p ≡ true → (env : Env) (f : ℕ → ℕ) (end e k : ℕ) → Fits e k (read p env f end k) (read p env f e k)
+unfolding straight read
 fits done h env f end e k = fits-none e k
 fits stop h env f end e k = never e k 0 (broken 0)
 fits (fields rows p) h env f end e k =
     fits-rows end e k (k + width rows) _ _ (omega arith)
     (fits-after e (k + width rows) (k + width rows) (values rows f k) _ _ (omega arith) (fits p h (bind rows f k env) f end e (k + width rows)))
 fits (branch t a b p) h env f end e k =
-    let arms = and-right (ofValue t) _ h in
-    let rest = and-right (endless a) _ arms in
+    let arms = and-right (asksNoEnd t) _ h in
+    let rest = and-right (straight a) _ arms in
     fits-then e k (cond (holds t env end k) (read a env f end k) (read b env f end k)) (cond (holds t env e k) (read a env f e k) (read b env f e k)) _ _
-    (rw (← same-test t (and-left (ofValue t) _ h) env end e k)
-    (fits-if e k (holds t env end k) _ _ _ _ (fits a (and-left (endless a) _ arms) env f end e k) (fits b (and-left (endless b) _ rest) env f end e k)))
-    (fits p (and-right (endless b) _ rest) env f end e)
+    (rw (← same-test t (and-left (asksNoEnd t) _ h) env end e k k)
+    (fits-if e k (holds t env end k) _ _ _ _ (fits a (and-left (straight a) _ arms) env f end e k) (fits b (and-left (straight b) _ rest) env f end e k)))
+    (fits p (and-right (straight b) _ rest) env f end e)
 fits (call a p) h env f end e k =
-    fits-then e k _ _ _ _ (fits a (and-left (endless a) _ h) env f end e k) (fits p (and-right (endless a) _ h) env f end e)
+    fits-then e k _ _ _ _ (fits a (and-left (straight a) _ h) env f end e k) (fits p (and-right (straight a) _ h) env f end e)
 fits (repeat n a p) h env f end e k =
-    fits-then e k _ _ _ _ (fits-again e _ _ (fits a (and-left (endless a) _ h) env f end e) (valueOf env n) k) (fits p (and-right (endless a) _ h) env f end e)
+    fits-then e k _ _ _ _ (fits-again e _ _ (fits a (and-left (straight a) _ h) env f end e) (valueOf env n) k) (fits p (and-right (straight a) _ h) env f end e)
 fits (frame n a p) h env f end e k = absurd (false≢true h)
 fits (fill a p) h env f end e k = absurd (false≢true h)
 fits (under n a p) h env f end e k = absurd (false≢true h)
 
 -- so many times the table
-pub shorter : (p : Prog) → endless p ≡ true → (env : Env) (f : ℕ → ℕ) (end e n k j : ℕ) (t : Trace)
+pub shorter : (p : Prog) → straight p ≡ true → (env : Env) (f : ℕ → ℕ) (end e n k j : ℕ) (t : Trace)
     → again n (λ i. read p env f end i) k ≡ reached j t → j ≤ e → again n (λ i. read p env f e i) k ≡ reached j t
 shorter p h env f end e n k j t q l = fits-again e (λ i. read p env f end i) (λ i. read p env f e i) (fits p h env f end e) n k j t q .1 l
 
 -- it goes no way back
-pub onward : (p : Prog) → endless p ≡ true → (env : Env) (f : ℕ → ℕ) (end n k j : ℕ) (t : Trace) → again n (λ i. read p env f end i) k ≡ reached j t → k ≤ j
+pub onward : (p : Prog) → straight p ≡ true → (env : Env) (f : ℕ → ℕ) (end n k j : ℕ) (t : Trace) → again n (λ i. read p env f end i) k ≡ reached j t → k ≤ j
 onward p h env f end n k j t q = fits-again end (λ i. read p env f end i) (λ i. read p env f end i) (fits p h env f end end) n k j t q .0
