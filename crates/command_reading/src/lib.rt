@@ -23,6 +23,7 @@ pub use answers::SpliceTime;
 use grammar::Ended;
 pub use parts::avails;
 pub use parts::splice_time;
+use units::MOST_SECTION;
 use units::Refusal;
 
 // The command of the section.
@@ -47,7 +48,7 @@ pub fn command(s: &[u8]) -> Command
 pub fn end(s: &[u8]) -> Ended
     ensures { λ r. ⌜ outcome r ≡ endOf (commandReading (now (s .entry))) ⌝ }
 {
-    if 4096 < s.len() {
+    if MOST_SECTION < s.len() {
         return Ended::Broken;
     }
     commands::command_end(s)

@@ -9,6 +9,7 @@ ghost use Rattle.wire.specs.Given.{given, givenInto};
 ghost use Rattle.exports_lines.specs.Numbers.{heldOf, heldNumber, turnNumbers, withRoom};
 use lines::Held;
 use lines::Turn;
+use units::MOST_TEXT;
 use units::Refusal;
 use units::Written;
 
@@ -66,7 +67,7 @@ fn give(answer: Turn, turn: &mut [u64]) -> Written
 fn held_of(n: u64) -> Held
     ensures { λ r. ⌜ r ≡ heldOf n ⌝ }
 {
-    if n <= 5464 {
+    if n <= MOST_TEXT {
         Held::Characters(n as usize)
     } else {
         Held::TooLong

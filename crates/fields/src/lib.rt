@@ -3,6 +3,7 @@
 ghost use mathlib.Core.Path.{_≡_};
 ghost use Rattle.fields.specs.Fields;
 ghost use Rattle.fields.specs.Fields.{source, plan, laid, timesOn, bytesTo, roomy, kept, Room};
+use units::MOST_FIELDS;
 
 // The bit after the fields so far, and how many fields there are.
 pub struct Place {
@@ -38,7 +39,7 @@ fn held(x: u64, width: usize) -> u64
 pub fn has_room(widths: &[u8], p: Place) -> bool
     ensures { λ r. ⌜ r ≡ roomy (plan p (now (widths .entry))) ⌝ }
 {
-    if 32768 < widths.len() {
+    if MOST_FIELDS < widths.len() {
         return false;
     }
     if widths.len() < p.number {

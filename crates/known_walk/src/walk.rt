@@ -6,6 +6,7 @@ ghost use Rattle.known_walk.specs.Places.{placed, placedAt};
 use crate::is_known;
 use descriptors::Cursor;
 use descriptors::Step;
+use units::MOST_SECTION;
 
 // Where a descriptor stands.
 pub enum Place {
@@ -17,7 +18,7 @@ pub enum Place {
 pub fn known(s: &[u8], cursor: Cursor, n: usize) -> Place
     ensures { λ r. ⌜ placed (now (s .entry)) cursor n r ⌝ }
 {
-    if 4096 < s.len() {
+    if MOST_SECTION < s.len() {
         return Place::Nowhere;
     }
     let mut place = cursor;
@@ -47,7 +48,7 @@ pub fn known(s: &[u8], cursor: Cursor, n: usize) -> Place
 pub fn count(s: &[u8], cursor: Cursor) -> usize
     ensures { λ r. ⌜ r ≡ length (knownCursors (now (s .entry)) cursor) ⌝ }
 {
-    if 4096 < s.len() {
+    if MOST_SECTION < s.len() {
         return 0;
     }
     let mut rest = cursor;
@@ -74,7 +75,7 @@ pub fn count(s: &[u8], cursor: Cursor) -> usize
 pub fn standing(s: &[u8], cursor: Cursor) -> Place
     ensures { λ r. ⌜ placedAt (now (s .entry)) (cursor .at) (standingTrace (now (s .entry)) cursor) r ⌝ }
 {
-    if 4096 < s.len() {
+    if MOST_SECTION < s.len() {
         return Place::Nowhere;
     }
     let Step::Descriptor(kind, _) = cursor.step(s) else {

@@ -9,6 +9,7 @@ use descriptor_reading::Upid;
 use descriptors::Cursor;
 use descriptors::Step;
 use section::Opened;
+use units::MOST_SECTION;
 
 // Which bytes the break is billed under.
 pub fn label(section: &[u8]) -> Label
@@ -35,7 +36,7 @@ pub fn bill_label<'a>(section: &'a [u8], house: &'a [u8]) -> &'a [u8]
 fn first_label(s: &[u8], cursor: Cursor) -> Label
     ensures { λ r. ⌜ r ≡ labelAt (now (s .entry)) (knownCursors (now (s .entry)) cursor) ⌝ }
 {
-    if 4096 < s.len() {
+    if MOST_SECTION < s.len() {
         return Label::House;
     }
     let mut place = cursor;

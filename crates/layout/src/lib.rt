@@ -8,6 +8,7 @@ ghost use Rattle.fields.specs.Fields.{source, plan, Room, Lays};
 ghost use Rattle.layout.specs.Layout;
 ghost use Rattle.layout.specs.Layout.{opening, planOf};
 use fields::Place;
+use units::MOST_FIELDS;
 
 // Table 5, from splice_command_type up to the end of the loop.
 fn opening(section: &[u8], sheet: &[u64], widths: &mut [u8], p: Place) -> Place
@@ -52,7 +53,7 @@ fn left(section: &[u8], sheet: &[u64], p: Place) -> u64
 pub fn plan(section: &[u8], sheet: &[u64], widths: &mut [u8]) -> Place
     ensures { λ r. ⌜ plan r (now (widths .exit)) ≡ planOf (now (section .entry)) (now (sheet .entry)) (now (widths .entry)) ⌝ }
 {
-    if 32768 < widths.len() {
+    if MOST_FIELDS < widths.len() {
         return Place { at: 0, number: 0 };
     }
     let encrypted_packet = fields::value(section, sheet, 32, 5, 1);

@@ -7,6 +7,7 @@ ghost use Rattle.line.specs.Line as says;
 use house::Break;
 pub use spelling::Line;
 pub use spelling::spell;
+use units::MOST_TEXT_BYTES;
 use units::Written;
 
 // The answer to a text.
@@ -14,7 +15,7 @@ pub fn answer(text: &[u8]) -> Line
     ensures { λ r. ⌜ r ≡ says.lineAnswer (now (text .entry)) ⌝ }
 {
     // the bytes of the longest text
-    let mut section = [0u8; 4098];
+    let mut section = [0u8; MOST_TEXT_BYTES];
     answer_in(text, &mut section)
 }
 

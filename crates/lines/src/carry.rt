@@ -6,6 +6,7 @@ ghost use Rattle.lines.specs.Turns.{heldWith, carryWith, carryEnded};
 ghost use Rattle.lines.specs.Turns as says;
 use crate::Held;
 use line::Line;
+use units::MOST_TEXT;
 use units::Refusal;
 
 // A part of a line, put behind what is held of it.
@@ -16,10 +17,10 @@ pub(crate) fn keep(held: Held, part: &[u8], carry: &mut [u8]) -> Held
     let Held::Characters(n) = held else {
         return Held::TooLong;
     };
-    if 5464 < n {
+    if MOST_TEXT < n {
         return Held::TooLong;
     }
-    if 5464 - n < part.len() {
+    if MOST_TEXT - n < part.len() {
         return Held::TooLong;
     }
     lent::put(part, carry, n);

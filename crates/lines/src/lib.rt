@@ -10,6 +10,8 @@ ghost use Rattle.lines.specs.Turns.{turnAnswer, turnCarry, turnOut, last
 pub use answers::Held;
 pub use answers::Turn;
 use line::Line;
+use units::MOST_TEXT;
+use units::MOST_TEXT_BYTES;
 use units::Refusal;
 use units::Written;
 
@@ -18,10 +20,10 @@ use units::Written;
 pub fn turn(held: Held, input: &[u8], carry: &mut [u8], out: &mut [u8]) -> Turn
     ensures { λ r. ⌜ (r ≡ turnAnswer held (now (input .entry)) (now (carry .entry)) (now (out .entry))) × (now (carry .exit) ≡ turnCarry held (now (input .entry)) (now (carry .entry)) (now (out .entry))) × (now (out .exit) ≡ turnOut held (now (input .entry)) (now (carry .entry)) (now (out .entry))) ⌝ }
 {
-    if carry.len() < 5464 {
+    if carry.len() < MOST_TEXT {
         return Turn::Refused(Refusal::Room);
     }
-    let mut section = [0u8; 4098];
+    let mut section = [0u8; MOST_TEXT_BYTES];
     let mut held = held;
     let mut taken = 0;
     let mut written = 0;
@@ -68,7 +70,7 @@ fn line_end(input: &[u8], from: usize) -> usize
 pub fn last_line(held: Held, carry: &[u8], out: &mut [u8]) -> Written
     ensures { λ r. ⌜ (r ≡ lastAnswer held (now (carry .entry)) (now (out .entry))) × (now (out .exit) ≡ lastOut held (now (carry .entry)) (now (out .entry))) ⌝ }
 {
-    if carry.len() < 5464 {
+    if carry.len() < MOST_TEXT {
         return Written::Refused(Refusal::Room);
     }
     match held {
@@ -76,7 +78,7 @@ pub fn last_line(held: Held, carry: &[u8], out: &mut [u8]) -> Written
             if n == 0 {
                 return Written::Count(0);
             }
-            if n <= 5464 {
+            if n <= MOST_TEXT {
                 line::spell(line::answer(&carry[..n]), out)
             } else {
                 line::spell(Line::Refused(Refusal::TextLen), out)

@@ -8,6 +8,7 @@ ghost use Rattle.section.specs.Accept.{acceptOf};
 ghost use Rattle.bits.specs.Bits.{readAll};
 ghost use Rattle.sheet_reading.specs.SheetOf.{toSheet, toSheetInto};
 use section::Verdict;
+use units::MOST_FIELDS;
 use units::Refusal;
 use units::Written;
 
@@ -23,7 +24,7 @@ pub fn from_section(section: &[u8], out: &mut [u64]) -> Written
         let mut widths = [0u8; 2048];
         return numbers(section, &mut widths, out);
     }
-    let mut widths = [0u8; 32768];
+    let mut widths = [0u8; MOST_FIELDS];
     numbers(section, &mut widths, out)
 }
 

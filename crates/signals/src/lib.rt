@@ -7,6 +7,7 @@ use descriptor_reading::Descriptor;
 use descriptor_reading::Duration;
 use descriptors::Cursor;
 use descriptors::Step;
+use units::MOST_SECTION;
 use units::Refusal;
 use units::Ticks;
 
@@ -25,7 +26,7 @@ pub enum Break {
 pub fn signal_break(s: &[u8], cursor: Cursor) -> Break
     ensures { λ r. ⌜ r ≡ signalBreak (knownReadings (now (s .entry)) cursor) ⌝ }
 {
-    if 4096 < s.len() {
+    if MOST_SECTION < s.len() {
         return Break::None;
     }
     let mut place = cursor;

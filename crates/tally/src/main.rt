@@ -6,6 +6,7 @@ use libc::STDIN_FILENO;
 use libc::STDOUT_FILENO;
 use lines::Held;
 use lines::Turn;
+use units::MOST_TEXT;
 use units::Written;
 
 // How it goes on: with what is held of a line that was cut, or not at all.
@@ -18,7 +19,7 @@ fn main() {
     let mut input = io::large_buffer();
     let mut out = io::large_buffer();
     // the longest text
-    let mut carry = [0u8; 5464];
+    let mut carry = [0u8; MOST_TEXT];
     let mut held = Held::Characters(0);
     // A proved loop has to end, and nothing says that the input does: no run uses these turns up.
     let mut turns = u64::MAX;

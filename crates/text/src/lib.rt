@@ -4,6 +4,7 @@ mod decode;
 ghost use mathlib.Core.Path.{_≡_};
 ghost use Rattle.text.specs.Text.{read, readInto};
 pub use text_writing::to_text;
+use units::MOST_TEXT;
 use units::Refusal;
 use units::Written;
 
@@ -15,7 +16,7 @@ pub fn to_section(text: &[u8], out: &mut [u8]) -> Written
     if n % 4 != 0 {
         return Written::Refused(Refusal::TextLen);
     }
-    if 5464 < n {
+    if MOST_TEXT < n {
         return Written::Refused(Refusal::TextLen);
     }
     let before = n - decode::padding(text);

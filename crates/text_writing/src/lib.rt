@@ -3,6 +3,7 @@ mod encode;
 
 ghost use mathlib.Core.Path.{_≡_};
 ghost use Rattle.text_writing.specs.Writing.{write, writeInto};
+use units::MOST_SECTION;
 use units::Refusal;
 use units::Written;
 
@@ -11,7 +12,7 @@ pub fn to_text(section: &[u8], out: &mut [u8]) -> Written
     ensures { λ r. ⌜ (r ≡ write (now (section .entry)) (now (out .entry))) × (now (out .exit) ≡ writeInto (now (section .entry)) (now (out .entry))) ⌝ }
 {
     let n = section.len();
-    if 4096 < n {
+    if MOST_SECTION < n {
         return Written::Refused(Refusal::Size);
     }
     let count = (n + 2) / 3 * 4;
