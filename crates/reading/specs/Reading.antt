@@ -5,7 +5,7 @@ unfoldable pub use Rattle.command_questions.specs.Questions.{asked, command, in
 use Prim.Native.Nat.{ℕ}
 use mathlib.Core.List.{List, []}
 use lib.ListN.{length, take, drop}
-use Rattle.section.specs.First.{openOf}
+use Rattle.opening.specs.First.{openOf}
 use Rattle.descriptor_reading.specs.declared.answers.Descriptor.{Descriptor}
 use Rattle.descriptor_reading.specs.declared.answers.KnownCount.{KnownCount}
 use Rattle.descriptor_reading.specs.declared.answers.DtmfChar.{DtmfChar}

@@ -13,13 +13,13 @@ use descriptor_reading::DtmfChar;
 use descriptor_reading::KnownCount;
 use descriptor_reading::SegmentationComponent;
 use descriptor_reading::Upid;
-use section::Opened;
+use opening::Opened;
 
 // How many known descriptors there are; unknown ones are not counted.
 pub fn known_count(section: &[u8]) -> KnownCount
     ensures { λ r. ⌜ r ≡ says.knownCount (now (section .entry)) ⌝ }
 {
-    match section::open(section) {
+    match opening::open(section) {
         Opened::Open(cursor) => KnownCount::Count(known_walk::count(section, cursor)),
         Opened::Refused(refusal) => KnownCount::Refused(refusal),
     }
@@ -29,7 +29,7 @@ pub fn known_count(section: &[u8]) -> KnownCount
 pub fn known_descriptor(section: &[u8], n: usize) -> Descriptor
     ensures { λ r. ⌜ r ≡ says.knownDescriptor (now (section .entry)) n ⌝ }
 {
-    match section::open(section) {
+    match opening::open(section) {
         Opened::Open(cursor) => descriptor_reading::known_descriptor(section, cursor, n),
         Opened::Refused(refusal) => Descriptor::Refused(refusal),
     }
@@ -39,7 +39,7 @@ pub fn known_descriptor(section: &[u8], n: usize) -> Descriptor
 pub fn dtmf_char(section: &[u8], n: usize, m: usize) -> DtmfChar
     ensures { λ r. ⌜ r ≡ says.dtmfChar (now (section .entry)) n m ⌝ }
 {
-    match section::open(section) {
+    match opening::open(section) {
         Opened::Open(cursor) => descriptor_lists::dtmf_char(section, cursor, n, m),
         Opened::Refused(refusal) => DtmfChar::Refused(refusal),
     }
@@ -49,7 +49,7 @@ pub fn dtmf_char(section: &[u8], n: usize, m: usize) -> DtmfChar
 pub fn segmentation_component(section: &[u8], n: usize, m: usize) -> SegmentationComponent
     ensures { λ r. ⌜ r ≡ says.segmentationComponent (now (section .entry)) n m ⌝ }
 {
-    match section::open(section) {
+    match opening::open(section) {
         Opened::Open(cursor) => descriptor_lists::segmentation_component(section, cursor, n, m),
         Opened::Refused(refusal) => SegmentationComponent::Refused(refusal),
     }
@@ -59,7 +59,7 @@ pub fn segmentation_component(section: &[u8], n: usize, m: usize) -> Segmentatio
 pub fn audio_component(section: &[u8], n: usize, m: usize) -> AudioComponent
     ensures { λ r. ⌜ r ≡ says.audioComponent (now (section .entry)) n m ⌝ }
 {
-    match section::open(section) {
+    match opening::open(section) {
         Opened::Open(cursor) => descriptor_lists::audio_component(section, cursor, n, m),
         Opened::Refused(refusal) => AudioComponent::Refused(refusal),
     }
@@ -69,7 +69,7 @@ pub fn audio_component(section: &[u8], n: usize, m: usize) -> AudioComponent
 pub fn upid(section: &[u8], n: usize) -> Upid
     ensures { λ r. ⌜ r ≡ says.upid (now (section .entry)) n ⌝ }
 {
-    match section::open(section) {
+    match opening::open(section) {
         Opened::Open(cursor) => descriptor_reading::upid(section, cursor, n),
         Opened::Refused(refusal) => Upid::Refused(refusal),
     }

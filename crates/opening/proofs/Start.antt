@@ -14,10 +14,10 @@ use Rattle.grammar.specs.Tables.{sized-command}
 use Rattle.grammar.proofs.Within.{byte-within}
 use Rattle.commands.specs.Command.{known, commandEnd}
 use Rattle.units.specs.declared.refusals.Refusal.{Refusal}
 use Rattle.section.specs.declared.Verdict.{Verdict}
 use Rattle.section.specs.declared.Verdict.the-variants.{Accepted, Refused}
 use Rattle.section.specs.Accept.{the, acceptOf}
-use Rattle.section.specs.First.{nowhere, loopFrom, ifAccepted, firstCursor}
+use Rattle.opening.specs.First.{nowhere, loopFrom, ifAccepted, firstCursor}
 
 -- where the command ends, in bytes that are enough for a section
 pub command-run : (s : List ℕ) → 20 ≤ length s → commandEnd s ≡ run sized-command (known s) (bit s) (8 * (length s - 4)) (8 * 14)

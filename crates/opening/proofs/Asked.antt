@@ -9,14 +9,14 @@ use lib.Dec.{eqb}
 use Rattle.units.specs.declared.refusals.Refusal.{Refusal}
 use Rattle.units.specs.Refusals.{named, first, orElse}
 use Rattle.descriptors.specs.declared.Cursor.{Cursor}
 use Rattle.section.specs.declared.Verdict.{Verdict}
 use Rattle.section.specs.declared.Verdict.the-variants.{Accepted}
-use Rattle.section.specs.declared.Opened.{Opened}
-use Rattle.section.specs.declared.Opened.the-variants.{Open}
+use Rattle.opening.specs.declared.Opened.{Opened}
+use Rattle.opening.specs.declared.Opened.the-variants.{Open}
 use Rattle.section.specs.Accept.{the, acceptRow, verdict, acceptOf}
-use Rattle.section.specs.First.{nowhere, firstCursor, openRow, opened, openOf}
+use Rattle.opening.specs.First.{nowhere, firstCursor, openRow, opened, openOf}
 use Rattle.section.proofs.Accepted.{accepted-row}
-use Rattle.section.proofs.Start.{no-section, when-sealed}
+use Rattle.opening.proofs.Start.{no-section, when-sealed}
 
 -- a row that refuses the section refuses the question
 same-row : (n m : ℕ) (r : Refusal) (c : Cursor) → verdict n ≡ Verdict.Refused r → opened (orElse n m) c ≡ Opened.Refused r

@@ -8,12 +8,12 @@ use Rattle.bits.specs.Bits.{bit, num}
 use Rattle.grammar.specs.Meaning.{Outcome, breach, ends}
 use Rattle.commands.specs.Command.{commandEnd}
 use Rattle.descriptors.specs.declared.Cursor.{Cursor}
 use Rattle.section.specs.declared.Verdict.{Verdict}
 use Rattle.section.specs.declared.Verdict.the-variants.{Accepted, Refused}
-use Rattle.section.specs.declared.Opened.{Opened}
-use Rattle.section.specs.declared.Opened.the-variants.{Open}
+use Rattle.opening.specs.declared.Opened.{Opened}
+use Rattle.opening.specs.declared.Opened.the-variants.{Open}
 use Rattle.units.specs.Refusals.{named, first, orElse}
 use Rattle.section.specs.Accept.{the, acceptRow, acceptOf}
 
 -- the cursor with nothing to walk over
 abbrev pub nowhere : Cursor

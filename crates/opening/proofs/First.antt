@@ -10,7 +10,7 @@ use lib.ListN.{length}
 use lib.Dec.{eqb}
 use Rattle.bits.specs.Bits.{bit, num}
 use Rattle.grammar.specs.Syntax.{field, done, fill, under}
-use Rattle.grammar.specs.Meaning.{Env, values, bind, Reading, broken, reached, read, endOf, ends, run}
+use Rattle.grammar.specs.Meaning.{Env, values, bind, reached, read, endOf, run}
 use Rattle.grammar.specs.Tables.{header, bytes, sized-command, splice-descriptor, descriptor-loop, payload, splice-info-section}
 use Rattle.grammar.specs.Traces.{Trace, size}
 use Rattle.grammar.proofs.Ends.{covers}
@@ -19,13 +19,13 @@ use Rattle.commands.specs.Command.{known}
 use Rattle.descriptors.specs.declared.Cursor.{Cursor}
 use Rattle.descriptors.specs.Loop.{walked, tracesAt}
 use Rattle.descriptors.proofs.Loop.{loop-trace}
 use Rattle.section.specs.declared.Verdict.the-variants.{Accepted}
-use Rattle.section.specs.Accept.{the, grammarOf, acceptOf}
-use Rattle.section.specs.First.{firstCursor}
+use Rattle.section.specs.Accept.{the, acceptOf}
+use Rattle.opening.specs.First.{firstCursor}
 use Rattle.section.proofs.Accepted.{accepted}
 use Rattle.grammar.proofs.Octets.{command-octets}
 use Rattle.grammar.proofs.Readings.{Reads, Parts, rows-parts, arm-parts, frame-parts, under-parts, under-last}
-use Rattle.section.proofs.Start.{command-run, after-command}
+use Rattle.opening.proofs.Start.{command-run, after-command}
 
 -- what is read before the first descriptor, of a command that ends at byte n: header, splice_command_type, command and descriptor_loop_length
 abbrev pub front : List ℕ → ℕ → Trace → Trace
@@ -146,12 +146,3 @@ module _ (s : List ℕ) where
     -- the section's trace, by its parts
     pub first-trace : read splice-info-section [] (bit s) (8 * (length s - 4)) 0 ≡ reached j t → Laid s (firstCursor s) j t
     first-trace q = let body = unsealed (record { reads = q }) in around-bits (body .0) (body .2) (under-parts (body .1))
-
-  -- and an accepted section has such a trace
-  pub has-trace : acceptOf s ≡ Accepted → (j : ℕ) × (t : Trace) × (read splice-info-section [] (bit s) (8 * (length s - 4)) 0 ≡ reached j t)
-  unfolding grammarOf run endOf
-  has-trace e = of (read splice-info-section [] (bit s) (8 * (length s - 4)) 0) (accepted s e .reads)
-    where
-      of : (r : Reading) → endOf r ≡ ends (accepted s e .stop) → (j : ℕ) × (t : Trace) × (r ≡ reached j t)
-      of (broken n) q = let z : _≡_ {A = ℕ} 0 1 = cc in absurd (omega arith)
-      of (reached j t) q = (j, t, refl)

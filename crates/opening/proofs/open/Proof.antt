@@ -1,4 +1,4 @@
--- `section::open` meets its contract: each way out is a case of the definition.
+-- `opening::open` meets its contract: each way out is a case of the definition.
 -- Assumes nothing.
 use mathlib.Core.Path.{_≡_, sym, ap, _∙_}
 use Prim.Native.Nat.{ℕ, _+_, _*_, _≤_}
@@ -10,16 +10,16 @@ use Rattle.bits.proofs.Within.{field-there}
 use Rattle.grammar.specs.Meaning.{ends}
 use Rattle.grammar.specs.Ended.{outcome}
 use Rattle.commands.specs.Command.{commandEnd}
 use Rattle.section.specs.declared.Verdict.the-variants.{Accepted}
-use Rattle.section.specs.declared.Opened.the-variants.{Open}
+use Rattle.opening.specs.declared.Opened.the-variants.{Open}
 use Rattle.section.specs.Accept.{acceptOf}
 use Rattle.section.proofs.Rows.{clear, sealed}
 use Rattle.section.proofs.Accepted.{Allowed, accepted}
-use Rattle.section.proofs.Start.{command-within, no-command, after-command}
-use Rattle.section.proofs.Asked.{refused-open, sealed-open, open-first}
+use Rattle.opening.proofs.Start.{command-within, no-command, after-command}
+use Rattle.opening.proofs.Asked.{refused-open, sealed-open, open-first}
 use borrow.Author.Needs.{needs}
-use Rattle.section.proofs.open.Statement.{statement}
-use Rattle.section.proofs.open.Tie as tie
+use Rattle.opening.proofs.open.Statement.{statement}
+use Rattle.opening.proofs.open.Tie as tie
 
 -- the section is accepted
 allowed : (t : tie.After-enum-told) → acceptOf (t .before .before .before .before .args .s .now) ≡ Accepted

@@ -1,10 +1,10 @@
--- `section::first_cursor` meets its contract: the cursor at which the section opens, or none.
+-- `opening::first_cursor` meets its contract: the cursor at which the section opens, or none.
 -- Assumes nothing.
 use mathlib.Core.Path.{sym, _∙_}
 use borrow.Author.Needs.{needs}
-use Rattle.section.proofs.Asked.{is-open, not-open}
-use Rattle.section.proofs.first_cursor.Statement.{statement}
-use Rattle.section.proofs.first_cursor.Tie as tie
+use Rattle.opening.proofs.Asked.{is-open, not-open}
+use Rattle.opening.proofs.first_cursor.Statement.{statement}
+use Rattle.opening.proofs.first_cursor.Tie as tie
 
 open-requires : tie.Need-open-requires
 open-requires c κs = search needs
