@@ -16,7 +16,8 @@ use Rattle.fields.specs.declared.Place.{Place}
 use Rattle.section.specs.declared.Verdict.{Verdict}
 use Rattle.section.specs.declared.Verdict.the-variants.{Accepted, Refused}
 use Rattle.section.specs.Accept.{acceptOf}
-use Rattle.sheet.specs.Sheet.{sheetOf, isAccepted, same, isSheetOf}
+use Rattle.sheet_reading.specs.SheetOf.{sheetOf}
+use Rattle.sheet_matching.specs.Matching.{isAccepted, same, isSheetOf}
 use Rattle.sheet_reading.proofs.Plans.{Laid, length-read}
 
 -- ---- the same numbers

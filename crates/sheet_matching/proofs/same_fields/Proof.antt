@@ -1,4 +1,4 @@
--- `sheet::same_fields` meets its contract. The loop's invariant: the fields that are left are the same as on the sheet just if all are.
+-- `sheet_matching::same_fields` meets its contract. The loop's invariant: the fields that are left are the same as on the sheet just if all are.
 -- Assumes nothing.
 use mathlib.Core.Path.{_≡_, refl, sym, ap₂, _∙_}
 use mathlib.Core.Bool.{false, _&&_}
@@ -9,10 +9,10 @@ use lib.Dec.{eqb}
 use lib.ListN.{length, getD}
 use borrow.Author.Tests.{eq-eqb, ne-eqb}
 use Rattle.bits.specs.Bits.{fieldOf, readAll}
-use Rattle.sheet.specs.Sheet.{same}
+use Rattle.sheet_matching.specs.Matching.{same}
 use Rattle.sheet_reading.proofs.Spans.{span, span-next, span-none}
-use Rattle.sheet.proofs.same_fields.Statement.{statement}
-use Rattle.sheet.proofs.same_fields.Tie as tie
+use Rattle.sheet_matching.proofs.same_fields.Statement.{statement}
+use Rattle.sheet_matching.proofs.same_fields.Tie as tie
 
 abbrev Inv-loop : tie.InvT-loop
 Inv-loop section sheet widths from to at place₀ i₀ place i =

@@ -1,12 +1,12 @@
--- `sheet::is_sheet_of` meets its contract: a refused section has no sheet, and an accepted one has memory for its fields.
+-- `sheet_matching::is_sheet_of` meets its contract: a refused section has no sheet, and an accepted one has memory for its fields.
 -- Assumes nothing.
 use mathlib.Core.Path.{sym, _∙_}
 use native.Mathlib.Omega.{arith}
 use Rattle.section.proofs.Accepted.{accepted}
-use Rattle.sheet.proofs.Same.{not-section}
+use Rattle.sheet_matching.proofs.Same.{not-section}
 use borrow.Author.Needs.{needs}
-use Rattle.sheet.proofs.is_sheet_of.Statement.{statement}
-use Rattle.sheet.proofs.is_sheet_of.Tie as tie
+use Rattle.sheet_matching.proofs.is_sheet_of.Statement.{statement}
+use Rattle.sheet_matching.proofs.is_sheet_of.Tie as tie
 
 accept-requires : tie.Need-accept-requires
 accept-requires c κs = search needs

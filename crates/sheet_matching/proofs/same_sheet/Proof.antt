@@ -1,4 +1,4 @@
--- `sheet::same_sheet` meets its contract: the count first, and then the numbers before and after section_length.
+-- `sheet_matching::same_sheet` meets its contract: the count first, and then the numbers before and after section_length.
 -- Assumes nothing.
 use mathlib.Core.Path.{_≡_, sym, ap, _∙_}
 use mathlib.Core.Bool.{Bool, _&&_}
@@ -7,12 +7,12 @@ use native.Mathlib.Omega.{arith}
 use lib.ListN.{length, take, drop}
 use borrow.Author.Tests.{not-true, not-false}
 use Rattle.bits.specs.Bits.{readAll}
-use Rattle.sheet.specs.Sheet.{same, isSheetOf}
+use Rattle.sheet_matching.specs.Matching.{same, isSheetOf}
 use Rattle.sheet_reading.proofs.Plans.{Laid, laid-out}
-use Rattle.sheet.proofs.Same.{other-count, two-parts}
+use Rattle.sheet_matching.proofs.Same.{other-count, two-parts}
 use borrow.Author.Needs.{needs}
-use Rattle.sheet.proofs.same_sheet.Statement.{statement}
-use Rattle.sheet.proofs.same_sheet.Tie as tie
+use Rattle.sheet_matching.proofs.same_sheet.Statement.{statement}
+use Rattle.sheet_matching.proofs.same_sheet.Tie as tie
 
 slice-aggregate-plan : tie.Need-slice-aggregate-plan
 slice-aggregate-plan c = search needs
