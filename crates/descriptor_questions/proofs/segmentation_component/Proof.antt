@@ -1,11 +1,11 @@
--- `reading::segmentation_component` meets its contract: an open section is asked, any other is refused.
+-- `descriptor_questions::segmentation_component` meets its contract: an open section is asked, any other is refused.
 -- Assumes nothing.
 use mathlib.Core.Path.{sym, _∙_}
 use borrow.Author.Needs.{needs}
-use Rattle.reading.specs.Reading.{segmentationComponent}
+use Rattle.descriptor_questions.specs.Questions.{segmentationComponent}
 use Rattle.command_questions.proofs.Asked.{when-open, when-refused}
-use Rattle.reading.proofs.segmentation_component.Statement.{statement}
-use Rattle.reading.proofs.segmentation_component.Tie as tie
+use Rattle.descriptor_questions.proofs.segmentation_component.Statement.{statement}
+use Rattle.descriptor_questions.proofs.segmentation_component.Tie as tie
 
 open-requires : tie.Need-open-requires
 open-requires c κs = search needs
