@@ -7,7 +7,7 @@ use command_reading::BreakDuration;
 use command_reading::Command;
 use command_reading::Insert;
 use descriptors::Cursor;
-use section::Opened;
+use opening::Opened;
 use signals::Break;
 use units::Refusal;
 
@@ -15,7 +15,7 @@ use units::Refusal;
 pub fn break_answer(section: &[u8]) -> Break
     ensures { λ r. ⌜ r ≡ breakAnswer (now (section .entry)) ⌝ }
 {
-    match section::open(section) {
+    match opening::open(section) {
         Opened::Open(cursor) => open_break(section, cursor),
         Opened::Refused(refusal) => refused_break(refusal),
     }

@@ -4,8 +4,8 @@ use Prim.Native.Nat.{ℕ}
 use mathlib.Core.List.{List}
 use Rattle.units.specs.declared.refusals.Refusal.{Refusal}
 use Rattle.descriptors.specs.declared.Cursor.{Cursor}
-use Rattle.section.specs.declared.Opened.{Opened}
-use Rattle.section.specs.First.{openOf}
+use Rattle.opening.specs.declared.Opened.{Opened}
+use Rattle.opening.specs.First.{openOf}
 use Rattle.command_reading.specs.declared.answers.Command.{Command}
 use Rattle.command_reading.specs.declared.answers.InsertComponent.{InsertComponent}
 use Rattle.command_reading.specs.declared.answers.Event.{Event}

@@ -7,13 +7,13 @@ use command_reading::Event;
 use command_reading::EventComponent;
 use command_reading::InsertComponent;
 use command_reading::PrivateByte;
-use section::Opened;
+use opening::Opened;
 
 // The command.
 pub fn command(section: &[u8]) -> Command
     ensures { λ r. ⌜ r ≡ says.command (now (section .entry)) ⌝ }
 {
-    match section::open(section) {
+    match opening::open(section) {
         Opened::Open(_) => command_reading::command(section),
         Opened::Refused(refusal) => Command::Refused(refusal),
     }
@@ -23,7 +23,7 @@ pub fn command(section: &[u8]) -> Command
 pub fn insert_component(section: &[u8], n: usize) -> InsertComponent
     ensures { λ r. ⌜ r ≡ says.insertComponent (now (section .entry)) n ⌝ }
 {
-    match section::open(section) {
+    match opening::open(section) {
         Opened::Open(_) => command_lists::insert_component(section, n),
         Opened::Refused(refusal) => InsertComponent::Refused(refusal),
     }
@@ -33,7 +33,7 @@ pub fn insert_component(section: &[u8], n: usize) -> InsertComponent
 pub fn schedule_event(section: &[u8], n: usize) -> Event
     ensures { λ r. ⌜ r ≡ says.scheduleEvent (now (section .entry)) n ⌝ }
 {
-    match section::open(section) {
+    match opening::open(section) {
         Opened::Open(_) => command_events::schedule_event(section, n),
         Opened::Refused(refusal) => Event::Refused(refusal),
     }
@@ -43,7 +43,7 @@ pub fn schedule_event(section: &[u8], n: usize) -> Event
 pub fn event_component(section: &[u8], n: usize, m: usize) -> EventComponent
     ensures { λ r. ⌜ r ≡ says.eventComponent (now (section .entry)) n m ⌝ }
 {
-    match section::open(section) {
+    match opening::open(section) {
         Opened::Open(_) => command_events::event_component(section, n, m),
         Opened::Refused(refusal) => EventComponent::Refused(refusal),
     }
@@ -53,7 +53,7 @@ pub fn event_component(section: &[u8], n: usize, m: usize) -> EventComponent
 pub fn private_byte(section: &[u8], n: usize) -> PrivateByte
     ensures { λ r. ⌜ r ≡ says.privateByte (now (section .entry)) n ⌝ }
 {
-    match section::open(section) {
+    match opening::open(section) {
         Opened::Open(_) => command_lists::private_byte(section, n),
         Opened::Refused(refusal) => PrivateByte::Refused(refusal),
     }

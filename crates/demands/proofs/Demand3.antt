@@ -18,8 +18,8 @@ use Rattle.grammar.specs.Names.{look}
 use Rattle.descriptors.specs.declared.Cursor.{Cursor}
 use Rattle.section.specs.declared.Verdict.the-variants.{Accepted}
 use Rattle.section.specs.Accept.{the, acceptOf}
-use Rattle.section.specs.First.{firstCursor, openOf}
-use Rattle.section.proofs.Asked.{sealed-open, open-first}
+use Rattle.opening.specs.First.{firstCursor, openOf}
+use Rattle.opening.proofs.Asked.{sealed-open, open-first}
 use Rattle.sheet.specs.Sheet.{sectionTrace, sheetOf}
 use Rattle.sheet.proofs.RoundTrip.{section-sheet-section}
 use Rattle.command_reading.specs.declared.answers.Command.{Command}

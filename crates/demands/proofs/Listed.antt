@@ -14,8 +14,8 @@ use Rattle.grammar.specs.Traces.{Trace, size, traceOf, blank}
 use Rattle.grammar.specs.Names.{look, isSet, allOf}
 use Rattle.descriptors.specs.declared.Cursor.{Cursor}
 use Rattle.descriptors.specs.Loop.{traceAt}
-use Rattle.section.specs.declared.Opened.{Opened}
-use Rattle.section.specs.First.{firstCursor, openOf}
+use Rattle.opening.specs.declared.Opened.{Opened}
+use Rattle.opening.specs.First.{firstCursor, openOf}
 use Rattle.descriptor_reading.specs.declared.answers.Descriptor.{Descriptor}
 use Rattle.descriptor_reading.specs.declared.answers.Upid.{Upid}
 use Rattle.known_walk.specs.Known.{knownCursors, numbered, knownTrace}

@@ -22,9 +22,9 @@ use Rattle.descriptors.specs.declared.Cursor.{Cursor}
 use Rattle.descriptors.specs.Loop.{walked, tracesAt}
 use Rattle.section.specs.declared.Verdict.the-variants.{Accepted}
 use Rattle.section.specs.Accept.{the, acceptOf}
-use Rattle.section.specs.First.{firstCursor}
-use Rattle.section.proofs.Accepted.{accepted}
-use Rattle.section.proofs.First.{Laid, first-trace, has-trace}
+use Rattle.section.proofs.Accepted.{accepted, has-trace}
+use Rattle.opening.specs.First.{firstCursor}
+use Rattle.opening.proofs.First.{Laid, first-trace}
 use Rattle.sheet.specs.Sheet.{sectionTrace}
 use Rattle.sheet_reading.proofs.Trace.{first, last}
 use Rattle.known_walk.specs.Known.{knownAmong, knownCursors}

@@ -7,7 +7,7 @@ use lib.ListN.{take, drop}
 use lib.Dec.{ltb}
 use Rattle.descriptors.specs.declared.Cursor.{Cursor}
 use Rattle.descriptors.specs.Loop.{traceAt}
-use Rattle.section.specs.First.{openOf}
+use Rattle.opening.specs.First.{openOf}
 use Rattle.known_walk.specs.Known.{knownCursors}
 use Rattle.descriptor_reading.specs.declared.answers.Upid.{Upid}
 use Rattle.descriptor_reading.specs.Descriptor.{upidOf}

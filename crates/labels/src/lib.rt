@@ -8,14 +8,14 @@ pub use answers::Label;
 use descriptor_reading::Upid;
 use descriptors::Cursor;
 use descriptors::Step;
-use section::Opened;
+use opening::Opened;
 use units::MOST_SECTION;
 
 // Which bytes the break is billed under.
 pub fn label(section: &[u8]) -> Label
     ensures { λ r. ⌜ r ≡ billLabel (now (section .entry)) ⌝ }
 {
-    match section::open(section) {
+    match opening::open(section) {
         Opened::Open(cursor) => first_label(section, cursor),
         Opened::Refused(_) => Label::House,
     }

@@ -9,9 +9,9 @@ use Rattle.bits.proofs.Bytes.{AreBytes}
 use Rattle.units.specs.declared.refusals.Refusal.{Refusal}
 use Rattle.grammar.specs.Names.{allOf}
 use Rattle.descriptors.specs.declared.Cursor.{Cursor}
-use Rattle.section.specs.declared.Opened.{Opened}
-use Rattle.section.specs.First.{firstCursor, openOf}
-use Rattle.section.proofs.Asked.{is-open}
+use Rattle.opening.specs.declared.Opened.{Opened}
+use Rattle.opening.specs.First.{firstCursor, openOf}
+use Rattle.opening.proofs.Asked.{is-open}
 use Rattle.descriptor_reading.specs.declared.answers.Upid.{Upid}
 use Rattle.known_walk.specs.Known.{knownTrace}
 use Rattle.descriptor_reading.specs.Descriptor as Says

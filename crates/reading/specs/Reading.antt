@@ -1,19 +1,17 @@
 -- The typed questions on a section: rows 1 to 10, then SEALED (17), then NOTHERE (16) where there is no such part.
--- Those on its command are passed on.
+-- Those on its command and on the lists of known descriptors are passed on.
 -- Assumes nothing.
 unfoldable pub use Rattle.command_questions.specs.Questions.{asked, command, insertComponent, scheduleEvent, eventComponent, privateByte}
+unfoldable pub use Rattle.descriptor_questions.specs.Questions.{dtmfChar, segmentationComponent, audioComponent}
 use Prim.Native.Nat.{ℕ}
 use mathlib.Core.List.{List, []}
 use lib.ListN.{length, take, drop}
-use Rattle.section.specs.First.{openOf}
+use Rattle.opening.specs.First.{openOf}
 use Rattle.descriptor_reading.specs.declared.answers.Descriptor.{Descriptor}
 use Rattle.descriptor_reading.specs.declared.answers.KnownCount.{KnownCount}
-use Rattle.descriptor_reading.specs.declared.answers.DtmfChar.{DtmfChar}
-use Rattle.descriptor_reading.specs.declared.answers.SegmentationComponent.{SegmentationComponent}
-use Rattle.descriptor_reading.specs.declared.answers.AudioComponent.{AudioComponent}
 use Rattle.descriptor_reading.specs.declared.answers.Upid.{Upid}
 use Rattle.known_walk.specs.Known.{knownCursors, knownTrace}
-use Rattle.descriptor_reading.specs.Descriptor.{descriptorOf, dtmfCharOf, segmentationComponentOf, audioComponentOf}
+use Rattle.descriptor_reading.specs.Descriptor.{descriptorOf}
 use Rattle.descriptor_reading.specs.Descriptor as Says
 
 -- ---- the known descriptors, by number from 0; unknown ones are not counted
@@ -23,15 +21,6 @@ knownCount s = asked (openOf s) KnownCount.Refused (λ c. KnownCount.Count (leng
 
 unfoldable pub knownDescriptor : List ℕ → ℕ → Descriptor
 knownDescriptor s n = asked (openOf s) Descriptor.Refused (λ c. descriptorOf (knownTrace s c n))
-
-unfoldable pub dtmfChar : List ℕ → ℕ → ℕ → DtmfChar
-dtmfChar s n m = asked (openOf s) DtmfChar.Refused (λ c. dtmfCharOf (knownTrace s c n) m)
-
-unfoldable pub segmentationComponent : List ℕ → ℕ → ℕ → SegmentationComponent
-segmentationComponent s n m = asked (openOf s) SegmentationComponent.Refused (λ c. segmentationComponentOf (knownTrace s c n) m)
-
-unfoldable pub audioComponent : List ℕ → ℕ → ℕ → AudioComponent
-audioComponent s n m = asked (openOf s) AudioComponent.Refused (λ c. audioComponentOf (knownTrace s c n) m)
 
 -- ---- the UPID of known descriptor n
 

@@ -1,5 +1,5 @@
 // The typed questions on a section. Every question takes any bytes, and is refused by rows 1 to 10, then by SEALED, then by
-// NOTHERE, where there is no such part. Those on its command are passed on.
+// NOTHERE, where there is no such part. Those on its command and on the lists of known descriptors are passed on.
 ghost use mathlib.Core.Path.{_≡_};
 ghost use Rattle.reading.specs.Reading as says;
 pub use command_questions::command;
@@ -7,19 +7,19 @@ pub use command_questions::event_component;
 pub use command_questions::insert_component;
 pub use command_questions::private_byte;
 pub use command_questions::schedule_event;
-use descriptor_reading::AudioComponent;
+pub use descriptor_questions::audio_component;
+pub use descriptor_questions::dtmf_char;
+pub use descriptor_questions::segmentation_component;
 use descriptor_reading::Descriptor;
-use descriptor_reading::DtmfChar;
 use descriptor_reading::KnownCount;
-use descriptor_reading::SegmentationComponent;
 use descriptor_reading::Upid;
-use section::Opened;
+use opening::Opened;
 
 // How many known descriptors there are; unknown ones are not counted.
 pub fn known_count(section: &[u8]) -> KnownCount
     ensures { λ r. ⌜ r ≡ says.knownCount (now (section .entry)) ⌝ }
 {
-    match section::open(section) {
+    match opening::open(section) {
         Opened::Open(cursor) => KnownCount::Count(known_walk::count(section, cursor)),
         Opened::Refused(refusal) => KnownCount::Refused(refusal),
     }
@@ -29,39 +29,9 @@ pub fn known_count(section: &[u8]) -> KnownCount
 pub fn known_descriptor(section: &[u8], n: usize) -> Descriptor
     ensures { λ r. ⌜ r ≡ says.knownDescriptor (now (section .entry)) n ⌝ }
 {
-    match section::open(section) {
+    match opening::open(section) {
         Opened::Open(cursor) => descriptor_reading::known_descriptor(section, cursor, n),
         Opened::Refused(refusal) => Descriptor::Refused(refusal),
-    }
-}
-
-// Character m of known descriptor n.
-pub fn dtmf_char(section: &[u8], n: usize, m: usize) -> DtmfChar
-    ensures { λ r. ⌜ r ≡ says.dtmfChar (now (section .entry)) n m ⌝ }
-{
-    match section::open(section) {
-        Opened::Open(cursor) => descriptor_lists::dtmf_char(section, cursor, n, m),
-        Opened::Refused(refusal) => DtmfChar::Refused(refusal),
-    }
-}
-
-// Component m of known descriptor n, a segmentation descriptor.
-pub fn segmentation_component(section: &[u8], n: usize, m: usize) -> SegmentationComponent
-    ensures { λ r. ⌜ r ≡ says.segmentationComponent (now (section .entry)) n m ⌝ }
-{
-    match section::open(section) {
-        Opened::Open(cursor) => descriptor_lists::segmentation_component(section, cursor, n, m),
-        Opened::Refused(refusal) => SegmentationComponent::Refused(refusal),
-    }
-}
-
-// Component m of known descriptor n, an audio descriptor.
-pub fn audio_component(section: &[u8], n: usize, m: usize) -> AudioComponent
-    ensures { λ r. ⌜ r ≡ says.audioComponent (now (section .entry)) n m ⌝ }
-{
-    match section::open(section) {
-        Opened::Open(cursor) => descriptor_lists::audio_component(section, cursor, n, m),
-        Opened::Refused(refusal) => AudioComponent::Refused(refusal),
     }
 }
 
@@ -69,7 +39,7 @@ pub fn audio_component(section: &[u8], n: usize, m: usize) -> AudioComponent
 pub fn upid(section: &[u8], n: usize) -> Upid
     ensures { λ r. ⌜ r ≡ says.upid (now (section .entry)) n ⌝ }
 {
-    match section::open(section) {
+    match opening::open(section) {
         Opened::Open(cursor) => descriptor_reading::upid(section, cursor, n),
         Opened::Refused(refusal) => Upid::Refused(refusal),
     }

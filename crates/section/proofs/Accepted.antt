@@ -2,15 +2,18 @@
 -- Assumes nothing.
 use mathlib.Core.Path.{_≡_, refl}
 use mathlib.Core.Bool.{Bool, true, false, not, _&&_, _||_}
-use mathlib.Core.List.{List, _∷_}
-use Prim.Native.Nat.{ℕ, zero, suc, _+_, _≤_, _<_}
+use mathlib.Core.List.{List, [], _∷_}
+use Prim.Native.Nat.{ℕ, zero, suc, _+_, _-_, _*_, _≤_, _<_}
 use native.Mathlib.Omega.{arith}
 use lib.ListN.{length}
 use lib.Dec.{ltb, eqb}
 use borrow.Author.Tests.{ltb-false, eqb-true}
+use Rattle.bits.specs.Bits.{bit}
 use Rattle.crc.specs.Crc.{crc32}
 use Rattle.units.proofs.Rows.{Row}
-use Rattle.grammar.specs.Meaning.{Outcome, breach, ends}
+use Rattle.grammar.specs.Meaning.{Reading, broken, reached, read, endOf, Outcome, breach, ends, run}
+use Rattle.grammar.specs.Tables.{splice-info-section}
+use Rattle.grammar.specs.Traces.{Trace}
 use Rattle.section.specs.declared.Verdict.the-variants.{Accepted}
 use Rattle.section.specs.Accept.{acceptRows, the, grammarOf, complete, acceptRow, verdict, acceptOf}
 
@@ -88,3 +91,12 @@ accepted-row s e = row-0 (acceptRow s) e
 
 pub accepted : (s : List ℕ) → acceptOf s ≡ Accepted → Allowed s
 accepted s e = no-row s (accepted-row s e)
+
+-- the grammar reads a trace of it
+pub has-trace : (s : List ℕ) → acceptOf s ≡ Accepted → (j : ℕ) × (t : Trace) × (read splice-info-section [] (bit s) (8 * (length s - 4)) 0 ≡ reached j t)
+unfolding grammarOf run endOf
+has-trace s e = of (read splice-info-section [] (bit s) (8 * (length s - 4)) 0) (accepted s e .reads)
+  where
+    of : (r : Reading) → endOf r ≡ ends (accepted s e .stop) → (j : ℕ) × (t : Trace) × (r ≡ reached j t)
+    of (broken n) q = let z : _≡_ {A = ℕ} 0 1 = cc in absurd (omega arith)
+    of (reached j t) q = (j, t, refl)

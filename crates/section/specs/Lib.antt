@@ -1,2 +1,1 @@
 pub mod Accept
-pub mod First

@@ -10,7 +10,6 @@ ghost use Rattle.grammar.specs.Meaning.{Env, bind, ends, breach, run};
 ghost use Rattle.grammar.specs.Tables.{header, payload, descriptor-loop, bytes, splice-descriptor};
 ghost use Rattle.grammar.proofs.Run.{Runs, swept};
 ghost use Rattle.section.specs.Accept.{acceptOf, judged, grammatical};
-ghost use Rattle.section.specs.First.{firstCursor, openOf};
 use descriptors::Cursor;
 use descriptors::Step;
 use grammar::Ended;
@@ -19,12 +18,6 @@ use units::Refusal;
 // Accepted, or the first row that refuses.
 pub enum Verdict {
     Accepted,
-    Refused(Refusal),
-}
-
-// Open, with the cursor of its first descriptor, or why not.
-pub enum Opened {
-    Open(Cursor),
     Refused(Refusal),
 }
 
@@ -63,37 +56,6 @@ pub fn accept(s: &[u8]) -> Verdict
         return Verdict::Refused(Refusal::Crypt);
     }
     Verdict::Accepted
-}
-
-// Opens the section for a question on its command or its descriptors: rows 1 to 10, then SEALED.
-pub fn open(s: &[u8]) -> Opened
-    ensures { λ r. ⌜ r ≡ openOf (now (s .entry)) ⌝ }
-{
-    if let Verdict::Refused(refusal) = accept(s) {
-        return Opened::Refused(refusal);
-    }
-    // encrypted_packet is the top bit
-    if 128 <= s[4] {
-        return Opened::Refused(Refusal::Sealed);
-    }
-    let Ended::At(at) = commands::command_end(s) else {
-        return Opened::Open(Cursor { at: 0, end: 0 });
-    };
-    let descriptor_loop_length = bits::pair(s, at) as usize;
-    Opened::Open(Cursor {
-        at: at + 2,
-        end: at + 2 + descriptor_loop_length,
-    })
-}
-
-// The cursor of the section's first descriptor. Empty where the bytes are no section, and where the section is sealed.
-pub fn first_cursor(s: &[u8]) -> Cursor
-    ensures { λ r. ⌜ r ≡ firstCursor (now (s .entry)) ⌝ }
-{
-    let Opened::Open(cursor) = open(s) else {
-        return Cursor { at: 0, end: 0 };
-    };
-    cursor
 }
 
 // Table 5, from splice_command_type on.

@@ -1,4 +1,3 @@
-pub mod Same
 pub mod Rows
 pub mod Back
 pub mod RoundTrip

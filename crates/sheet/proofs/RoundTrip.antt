@@ -24,7 +24,7 @@ use Rattle.section.specs.declared.Verdict.the-variants.{Accepted}
 use Rattle.section.specs.Accept.{acceptOf}
 use Rattle.sheet.specs.Sheet.{sheetOf, fieldsBetween, roomFor, fitting, lengthFor, planFor, filled, summed, sectionOf, isAccepted, same, isSheetOf, sectionRow, toSection, toSectionInto}
 use Rattle.sheet_reading.proofs.Trace.{whole}
-use Rattle.sheet.proofs.Same.{same-refl, same-true}
+use Rattle.sheet_matching.proofs.Same.{same-refl, same-true}
 use Rattle.sheet.proofs.Back.{back, zero-bytes, all-bytes, front-bytes}
 
 -- the bytes s are an accepted section with the sheet x

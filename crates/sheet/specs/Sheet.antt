@@ -1,10 +1,11 @@
--- The way back from a field sheet to its section; and, passed on, the sheet of a section.
+-- The way back from a field sheet to its section; and, passed on, the sheet of a section and whether bytes have it.
 -- Assumes nothing.
 unfoldable pub use Rattle.sheet_reading.specs.SheetOf.{sectionTrace, sheetOf, toSheet, toSheetInto}
+unfoldable pub use Rattle.sheet_matching.specs.Matching.{isAccepted, same, isSheetOf}
 use mathlib.Core.Path.{_≡_}
 use Prim.Native.Nat.{ℕ, _+_, _-_, _*_, _/_}
-use mathlib.Core.Bool.{Bool, true, false, cond, not, _&&_}
-use mathlib.Core.List.{List, [], _∷_, _++_}
+use mathlib.Core.Bool.{Bool, cond, not, _&&_}
+use mathlib.Core.List.{List, [], _∷_}
 use lib.ListN.{length, take, drop, replicate}
 use lib.Dec.{leb, ltb, eqb}
 use Rattle.bits.specs.Bits.{writtenOf, writeAll}
@@ -14,9 +15,6 @@ use Rattle.units.specs.Refusals.{first}
 use Rattle.units.specs.Answers.{answer, memory}
 use Rattle.fields.specs.Fields.{Plan}
 use Rattle.layout.specs.Layout.{planOf}
-use Rattle.section.specs.declared.Verdict.{Verdict}
-use Rattle.section.specs.declared.Verdict.the-variants.{Accepted, Refused}
-use Rattle.section.specs.Accept.{acceptOf}
 
 -- how much memory is cleared for n numbers: little where that is enough
 abbrev pub roomFor : ℕ → ℕ → ℕ → ℕ
@@ -56,22 +54,6 @@ summed n m = writtenOf m (8 * (n - 4)) 32 (crc32 (take (n - 4) m))
 -- the bytes that the numbers of a sheet make
 unfoldable pub sectionOf : List ℕ → List ℕ
 sectionOf x = cond (fitting x) (take (lengthFor x) (summed (lengthFor x) (filled x (lengthFor x) (planFor x .widths) (replicate (roomFor (lengthFor x) 256 4096) 0)))) []
-
--- the verdict accepts
-unfoldable pub isAccepted : Verdict → Bool
-isAccepted Accepted = true
-isAccepted (Refused r) = false
-
--- the same numbers
-unfoldable pub same : List ℕ → List ℕ → Bool
-same [] [] = true
-same [] (y ∷ ys) = false
-same (x ∷ xs) [] = false
-same (x ∷ xs) (y ∷ ys) = eqb x y && same xs ys
-
--- the bytes s are a section, and x is its sheet
-unfoldable pub isSheetOf : List ℕ → List ℕ → Bool
-isSheetOf x s = isAccepted (acceptOf s) && same (sheetOf s) x
 
 -- SHEET, where the bytes s are not the section of the sheet x; then ROOM
 abbrev pub rowFor : List ℕ → List ℕ → ℕ → ℕ

@@ -17,8 +17,7 @@ use Rattle.layout.proofs.Shape.{Thin, thin-length, section-thin}
 use Rattle.layout.proofs.Planned.{Body, body-of}
 use Rattle.section.specs.declared.Verdict.the-variants.{Accepted}
 use Rattle.section.specs.Accept.{acceptOf}
-use Rattle.section.proofs.Accepted.{Allowed, accepted}
-use Rattle.section.proofs.First.{has-trace}
+use Rattle.section.proofs.Accepted.{Allowed, accepted, has-trace}
 use Rattle.sheet_reading.specs.SheetOf.{sectionTrace, sheetOf, unsized}
 
 pub length-numbers : (t : Trace) → length (numbers t) ≡ length t

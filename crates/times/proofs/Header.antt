@@ -14,11 +14,11 @@ use Rattle.bits.proofs.Within.{field-there}
 use Rattle.grammar.specs.Meaning.{values, isAmong}
 use Rattle.grammar.specs.Names.{look}
 use Rattle.descriptors.specs.declared.Cursor.{Cursor}
-use Rattle.section.specs.declared.Opened.{Opened}
 use Rattle.section.specs.Accept.{the}
-use Rattle.section.specs.First.{openOf}
 use Rattle.section.proofs.Accepted.{accepted}
-use Rattle.section.proofs.Asked.{is-open}
+use Rattle.opening.specs.declared.Opened.{Opened}
+use Rattle.opening.specs.First.{openOf}
+use Rattle.opening.proofs.Asked.{is-open}
 use Rattle.command_reading.specs.Command.{typed, commandTrace}
 
 module _ (s : List ℕ) (c : Cursor) (e : openOf s ≡ Opened.Open c) where

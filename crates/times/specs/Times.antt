@@ -7,7 +7,7 @@ use Rattle.units.specs.Clock.{ticks, clockSum}
 use Rattle.grammar.specs.Meaning.{isAmong}
 use Rattle.grammar.specs.Names.{look}
 use Rattle.section.specs.Accept.{the}
-use Rattle.section.specs.First.{openOf}
+use Rattle.opening.specs.First.{openOf}
 use Rattle.command_reading.specs.declared.answers.SpliceTime.{SpliceTime}
 use Rattle.command_reading.specs.declared.answers.Command.{Command}
 use Rattle.command_reading.specs.Command.{commandTrace, command}

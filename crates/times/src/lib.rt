@@ -9,14 +9,14 @@ pub use answers::Dvb;
 pub use answers::EffectiveTime;
 use command_reading::Command;
 use command_reading::SpliceTime;
-use section::Opened;
+use opening::Opened;
 use units::Ticks;
 
 // When the splice takes place on the stream's own clock.
 pub fn effective_time(section: &[u8]) -> EffectiveTime
     ensures { λ r. ⌜ r ≡ says.effectiveTime (now (section .entry)) ⌝ }
 {
-    match section::open(section) {
+    match opening::open(section) {
         Opened::Open(_) => open_time(section, Ticks(bits::read(section, 39, 33))),
         Opened::Refused(refusal) => EffectiveTime::Refused(refusal),
     }
@@ -50,7 +50,7 @@ fn moved_by(pts_adjustment: Ticks, time: SpliceTime) -> EffectiveTime
 pub fn dvb(section: &[u8]) -> Dvb
     ensures { λ r. ⌜ r ≡ says.dvb (now (section .entry)) ⌝ }
 {
-    match section::open(section) {
+    match opening::open(section) {
         Opened::Open(_) => {
             // splice_command_type
             match bits::octet(section, 13) {

@@ -1,0 +1,33 @@
+-- `descriptor_questions::dtmf_char` meets its contract: an open section is asked, any other is refused.
+-- Assumes nothing.
+use mathlib.Core.Path.{sym, _∙_}
+use borrow.Author.Needs.{needs}
+use Rattle.descriptor_questions.specs.Questions.{dtmfChar}
+use Rattle.command_questions.proofs.Asked.{when-open, when-refused}
+use Rattle.descriptor_questions.proofs.dtmf_char.Statement.{statement}
+use Rattle.descriptor_questions.proofs.dtmf_char.Tie as tie
+
+open-requires : tie.Need-open-requires
+open-requires c κs = search needs
+
+enum-known-cursor : tie.Need-enum-known-cursor
+enum-known-cursor c = search needs
+
+dtmf-char-requires : tie.Need-dtmf-char-requires
+dtmf-char-requires c κs = search needs
+
+enum-known-refusal : tie.Need-enum-known-refusal
+enum-known-refusal c = search needs
+
+returns : tie.Need-returns
+unfolding dtmfChar
+returns c =
+    c .dtmf-char .ensures
+    ∙ sym (when-open _ _ _ (sym (c .before .before .before .before .«open» .ensures) ∙ c .before .before .cursor .given .1))
+
+returns-2 : tie.Need-returns-2
+unfolding dtmfChar
+returns-2 c = sym (when-refused _ _ _ (sym (c .before .before .before .«open» .ensures) ∙ c .before .refusal .given .1))
+
+pub dtmf-char-spec : {M : Type 1} → statement M
+dtmf-char-spec = tie.close (tie.spec open-requires enum-known-cursor dtmf-char-requires enum-known-refusal returns returns-2)

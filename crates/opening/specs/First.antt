@@ -1,0 +1,49 @@
+-- The cursor of a section's first descriptor, where the walk over its descriptors starts; and whether a section can be asked.
+-- Assumes nothing.
+use Prim.Native.Nat.{ℕ, zero, suc, _+_, _/_}
+use mathlib.Core.Bool.{cond}
+use mathlib.Core.List.{List, [], _∷_}
+use lib.Dec.{eqb}
+use Rattle.bits.specs.Bits.{bit, num}
+use Rattle.grammar.specs.Meaning.{Outcome, breach, ends}
+use Rattle.commands.specs.Command.{commandEnd}
+use Rattle.descriptors.specs.declared.Cursor.{Cursor}
+use Rattle.section.specs.declared.Verdict.{Verdict}
+use Rattle.section.specs.declared.Verdict.the-variants.{Accepted, Refused}
+use Rattle.opening.specs.declared.Opened.{Opened}
+use Rattle.opening.specs.declared.Opened.the-variants.{Open}
+use Rattle.units.specs.Refusals.{named, first, orElse}
+use Rattle.section.specs.Accept.{the, acceptRow, acceptOf}
+
+-- the cursor with nothing to walk over
+abbrev pub nowhere : Cursor
+nowhere = record { at = 0; end = 0 }
+
+-- the loop after a command that ends as the outcome says: the two bytes of descriptor_loop_length, and then as many as these say
+unfoldable pub loopFrom : List ℕ → Outcome → Cursor
+loopFrom s (breach n) = nowhere
+loopFrom s (ends k) = record { at = k / 8 + 2; end = k / 8 + 2 + num (bit s) k 16 }
+
+-- a cursor of an accepted section, none of a refused one
+unfoldable pub ifAccepted : Verdict → Cursor → Cursor
+ifAccepted Accepted c = c
+ifAccepted (Refused r) c = nowhere
+
+-- the cursor of the section's first descriptor; none where the bytes are no section, or its descriptors are sealed
+unfoldable pub firstCursor : List ℕ → Cursor
+firstCursor s = ifAccepted (acceptOf s) (cond (eqb (the s "encrypted_packet") 1) nowhere (loopFrom s (commandEnd s)))
+
+-- ---- a question on the command or the descriptors
+
+-- rows 1 to 10, then SEALED
+unfoldable pub openRow : List ℕ → ℕ
+openRow s = orElse (acceptRow s) (first ((eqb (the s "encrypted_packet") 1, 17) ∷ []))
+
+-- the answer for a row: no row, 0, opens the section at its first descriptor
+unfoldable pub opened : ℕ → Cursor → Opened
+opened zero c = Open c
+opened (suc row) c = Opened.Refused (named (suc row))
+
+-- whether the section can be asked, or why not
+unfoldable pub openOf : List ℕ → Opened
+openOf s = opened (openRow s) (firstCursor s)
