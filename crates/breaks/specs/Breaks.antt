@@ -6,12 +6,11 @@ use mathlib.Core.List.{List}
 use lib.Dec.{eqb}
 use Rattle.units.specs.declared.refusals.Refusal.{Refusal}
 use Rattle.units.specs.Refusals.{numberOf}
-use Rattle.opening.specs.First.{openOf}
+use Rattle.opening.specs.First.{openOf, asked}
 use Rattle.command_reading.specs.declared.answers.BreakDuration.{BreakDuration}
 use Rattle.command_reading.specs.declared.answers.Insert.{Insert}
 use Rattle.command_reading.specs.declared.answers.Command.{Command}
 use Rattle.command_reading.specs.Command.{command}
-use Rattle.command_questions.specs.Questions.{asked}
 use Rattle.descriptor_reading.specs.declared.answers.Descriptor.{Descriptor}
 use Rattle.signals.specs.declared.Break.{Break}
 use Rattle.signals.specs.Signals.{knownReadings, signalBreak}

@@ -2,10 +2,7 @@
 -- Assumes nothing.
 use Prim.Native.Nat.{ℕ}
 use mathlib.Core.List.{List}
-use Rattle.units.specs.declared.refusals.Refusal.{Refusal}
-use Rattle.descriptors.specs.declared.Cursor.{Cursor}
-use Rattle.opening.specs.declared.Opened.{Opened}
-use Rattle.opening.specs.First.{openOf}
+use Rattle.opening.specs.First.{openOf, asked}
 use Rattle.command_reading.specs.declared.answers.Command.{Command}
 use Rattle.command_reading.specs.declared.answers.InsertComponent.{InsertComponent}
 use Rattle.command_reading.specs.declared.answers.Event.{Event}
@@ -15,11 +12,6 @@ use Rattle.command_reading.specs.Command.{commandTrace}
 use Rattle.command_reading.specs.Command as Says
 use Rattle.command_lists.specs.Lists.{insertComponentOf, privateByteOf}
 use Rattle.command_events.specs.Events.{eventOf, eventComponentOf}
-
--- the answer of an open section, with the cursor of its first descriptor, or the refusal of one that cannot be asked
-unfoldable pub asked : {A : Type 0} → Opened → (Refusal → A) → (Cursor → A) → A
-asked (Opened.Open c) refuse answer = answer c
-asked (Opened.Refused r) refuse answer = refuse r
 
 unfoldable pub command : List ℕ → Command
 command s = asked (openOf s) Command.Refused (λ c. Says.command s)

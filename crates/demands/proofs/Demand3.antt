@@ -18,8 +18,8 @@ use Rattle.grammar.specs.Names.{look}
 use Rattle.descriptors.specs.declared.Cursor.{Cursor}
 use Rattle.section.specs.declared.Verdict.the-variants.{Accepted}
 use Rattle.section.specs.Accept.{the, acceptOf}
-use Rattle.opening.specs.First.{firstCursor, openOf}
-use Rattle.opening.proofs.Asked.{sealed-open, open-first}
+use Rattle.opening.specs.First.{firstCursor, openOf, asked}
+use Rattle.opening.proofs.Asked.{sealed-open, open-first, when-open, when-refused}
 use Rattle.sheet.specs.Sheet.{sectionTrace, sheetOf}
 use Rattle.sheet.proofs.RoundTrip.{section-sheet-section}
 use Rattle.command_reading.specs.declared.answers.Command.{Command}
@@ -42,8 +42,6 @@ use Rattle.descriptor_reading.specs.Descriptor.{descriptorOf, dtmfCharOf, segme
 use Rattle.descriptor_reading.specs.Descriptor as Descriptors
 use Rattle.known_walk.proofs.EachStands.{each-stands}
 use Rattle.reading.specs.Reading as Asks
-use Rattle.command_questions.specs.Questions.{asked}
-use Rattle.command_questions.proofs.Asked.{when-open, when-refused}
 use Rattle.signals.specs.declared.Break.{Break}
 use Rattle.signals.specs.Signals.{knownReadings}
 use Rattle.breaks.specs.Breaks.{breakBy, refusedBreak}

@@ -24,7 +24,7 @@ use Rattle.descriptor_reading.specs.Descriptor as Says
 use Rattle.known_walk.proofs.EachStands.{AllStand}
 use Rattle.descriptor_reading.proofs.UpidPart.{standing-part}
 use Rattle.reading.specs.Reading.{upid, partOf, upidBytes}
-use Rattle.command_questions.proofs.Asked.{when-open}
+use Rattle.opening.proofs.Asked.{when-open}
 use Rattle.reading.proofs.UpidBytes.{part-values}
 use Rattle.labels.specs.declared.answers.Label.{Label}
 use Rattle.signals.specs.Signals.{readAt}

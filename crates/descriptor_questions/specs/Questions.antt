@@ -3,13 +3,12 @@
 -- Assumes nothing.
 use Prim.Native.Nat.{ℕ}
 use mathlib.Core.List.{List}
-use Rattle.opening.specs.First.{openOf}
+use Rattle.opening.specs.First.{openOf, asked}
 use Rattle.descriptor_reading.specs.declared.answers.DtmfChar.{DtmfChar}
 use Rattle.descriptor_reading.specs.declared.answers.SegmentationComponent.{SegmentationComponent}
 use Rattle.descriptor_reading.specs.declared.answers.AudioComponent.{AudioComponent}
 use Rattle.known_walk.specs.Known.{knownTrace}
 use Rattle.descriptor_reading.specs.Descriptor.{dtmfCharOf, segmentationComponentOf, audioComponentOf}
-use Rattle.command_questions.specs.Questions.{asked}
 
 unfoldable pub dtmfChar : List ℕ → ℕ → ℕ → DtmfChar
 dtmfChar s n m = asked (openOf s) DtmfChar.Refused (λ c. dtmfCharOf (knownTrace s c n) m)

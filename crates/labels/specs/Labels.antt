@@ -7,11 +7,10 @@ use lib.ListN.{take, drop}
 use lib.Dec.{ltb}
 use Rattle.descriptors.specs.declared.Cursor.{Cursor}
 use Rattle.descriptors.specs.Loop.{traceAt}
-use Rattle.opening.specs.First.{openOf}
+use Rattle.opening.specs.First.{openOf, asked}
 use Rattle.known_walk.specs.Known.{knownCursors}
 use Rattle.descriptor_reading.specs.declared.answers.Upid.{Upid}
 use Rattle.descriptor_reading.specs.Descriptor.{upidOf}
-use Rattle.command_questions.specs.Questions.{asked}
 use Rattle.labels.specs.declared.answers.Label.{Label}
 
 -- a part that is not empty is the label

@@ -14,7 +14,7 @@ use Rattle.section.specs.declared.Verdict.the-variants.{Accepted}
 use Rattle.opening.specs.declared.Opened.{Opened}
 use Rattle.opening.specs.declared.Opened.the-variants.{Open}
 use Rattle.section.specs.Accept.{the, acceptRow, verdict, acceptOf}
-use Rattle.opening.specs.First.{nowhere, firstCursor, openRow, opened, openOf}
+use Rattle.opening.specs.First.{nowhere, firstCursor, openRow, opened, openOf, asked}
 use Rattle.section.proofs.Accepted.{accepted-row}
 use Rattle.opening.proofs.Start.{no-section, when-sealed}
 
@@ -77,3 +77,14 @@ module _ (s : List ℕ) where
       go : (v : Verdict) → acceptOf s ≡ v → firstCursor s ≡ nowhere
       go Accepted a = by-seal (eqb (the s "encrypted_packet") 1) refl a
       go (Verdict.Refused q) a = no-section s q a
+
+-- ---- the answer of a question
+
+pub when-open : {A : Type 0} (refuse : Refusal → A) (answer : Cursor → A) {o : Opened} (c : Cursor) → o ≡ Opened.Open c → asked o refuse answer ≡ answer c
+unfolding asked
+when-open refuse answer c e = ap (λ (x : Opened). asked x refuse answer) e
+
+pub when-refused : {A : Type 0} (refuse : Refusal → A) (answer : Cursor → A) {o : Opened} (r : Refusal) → o ≡ Opened.Refused r
+    → asked o refuse answer ≡ refuse r
+unfolding asked
+when-refused refuse answer r e = ap (λ (x : Opened). asked x refuse answer) e

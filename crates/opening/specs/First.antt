@@ -1,4 +1,5 @@
--- The cursor of a section's first descriptor, where the walk over its descriptors starts; and whether a section can be asked.
+-- The cursor of a section's first descriptor, where the walk over its descriptors starts; whether a section can be asked, and what a
+-- question on it answers.
 -- Assumes nothing.
 use Prim.Native.Nat.{ℕ, zero, suc, _+_, _/_}
 use mathlib.Core.Bool.{cond}
@@ -7,6 +8,7 @@ use lib.Dec.{eqb}
 use Rattle.bits.specs.Bits.{bit, num}
 use Rattle.grammar.specs.Meaning.{Outcome, breach, ends}
 use Rattle.commands.specs.Command.{commandEnd}
+use Rattle.units.specs.declared.refusals.Refusal.{Refusal}
 use Rattle.descriptors.specs.declared.Cursor.{Cursor}
 use Rattle.section.specs.declared.Verdict.{Verdict}
 use Rattle.section.specs.declared.Verdict.the-variants.{Accepted, Refused}
@@ -47,3 +49,8 @@ opened (suc row) c = Opened.Refused (named (suc row))
 -- whether the section can be asked, or why not
 unfoldable pub openOf : List ℕ → Opened
 openOf s = opened (openRow s) (firstCursor s)
+
+-- the answer of an open section, with the cursor of its first descriptor, or the refusal of one that cannot be asked
+unfoldable pub asked : {A : Type 0} → Opened → (Refusal → A) → (Cursor → A) → A
+asked (Opened.Open c) refuse answer = answer c
+asked (Opened.Refused r) refuse answer = refuse r

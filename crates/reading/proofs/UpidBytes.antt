@@ -11,13 +11,12 @@ use Rattle.grammar.specs.Names.{allOf}
 use Rattle.descriptors.specs.declared.Cursor.{Cursor}
 use Rattle.opening.specs.declared.Opened.{Opened}
 use Rattle.opening.specs.First.{firstCursor, openOf}
-use Rattle.opening.proofs.Asked.{is-open}
+use Rattle.opening.proofs.Asked.{is-open, when-open, when-refused}
 use Rattle.descriptor_reading.specs.declared.answers.Upid.{Upid}
 use Rattle.known_walk.specs.Known.{knownTrace}
 use Rattle.descriptor_reading.specs.Descriptor as Says
 use Rattle.descriptor_reading.proofs.UpidPart.{upid-within, upid-part}
 use Rattle.reading.specs.Reading.{upid, partOf, upidBytes}
-use Rattle.command_questions.proofs.Asked.{when-open, when-refused}
 
 module _ (s : List ℕ) (n at l : ℕ) (e : upid s n ≡ Upid.Part at l) where
   -- a part is that of an open section's descriptor

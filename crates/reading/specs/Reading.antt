@@ -1,12 +1,12 @@
 -- The typed questions on a section: rows 1 to 10, then SEALED (17), then NOTHERE (16) where there is no such part.
 -- Those on its command and on the lists of known descriptors are passed on.
 -- Assumes nothing.
-unfoldable pub use Rattle.command_questions.specs.Questions.{asked, command, insertComponent, scheduleEvent, eventComponent, privateByte}
+unfoldable pub use Rattle.command_questions.specs.Questions.{command, insertComponent, scheduleEvent, eventComponent, privateByte}
 unfoldable pub use Rattle.descriptor_questions.specs.Questions.{dtmfChar, segmentationComponent, audioComponent}
 use Prim.Native.Nat.{ℕ}
 use mathlib.Core.List.{List, []}
 use lib.ListN.{length, take, drop}
-use Rattle.opening.specs.First.{openOf}
+use Rattle.opening.specs.First.{openOf, asked}
 use Rattle.descriptor_reading.specs.declared.answers.Descriptor.{Descriptor}
 use Rattle.descriptor_reading.specs.declared.answers.KnownCount.{KnownCount}
 use Rattle.descriptor_reading.specs.declared.answers.Upid.{Upid}

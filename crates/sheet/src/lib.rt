@@ -5,6 +5,8 @@ ghost use lib.ListN.{length, take, replicate};
 ghost use Rattle.bits.specs.Bits.{writeAll};
 ghost use Rattle.sheet.specs.Sheet.{fieldsBetween, filled, summed, roomFor, Judged, toSection, toSectionInto};
 pub use sheet_reading::from_section;
+use units::MOST_FIELDS;
+use units::MOST_SECTION;
 use units::Refusal;
 use units::Written;
 
@@ -17,14 +19,14 @@ pub fn to_section(sheet: &[u64], out: &mut [u8]) -> Written
     if sheet.len() < 11 {
         return Written::Refused(Refusal::Sheet);
     }
-    if 32768 < sheet.len() {
+    if MOST_FIELDS < sheet.len() {
         return Written::Refused(Refusal::Sheet);
     }
     if sheet.len() <= 256 {
         let mut widths = [0u8; 256];
         return bytes(sheet, &mut widths, out);
     }
-    let mut widths = [0u8; 32768];
+    let mut widths = [0u8; MOST_FIELDS];
     bytes(sheet, &mut widths, out)
 }
 
@@ -46,7 +48,7 @@ fn bytes(sheet: &[u64], widths: &mut [u8], out: &mut [u8]) -> Written
         let mut memory = [0u8; 256];
         return made(sheet, widths, &mut memory, n, out);
     }
-    let mut memory = [0u8; 4096];
+    let mut memory = [0u8; MOST_SECTION];
     made(sheet, widths, &mut memory, n, out)
 }
 

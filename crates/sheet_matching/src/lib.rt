@@ -7,6 +7,7 @@ ghost use Rattle.section.specs.Accept.{acceptOf};
 ghost use Rattle.bits.specs.Bits.{readAll};
 ghost use Rattle.sheet_matching.specs.Matching.{same, isSheetOf};
 use section::Verdict;
+use units::MOST_FIELDS;
 
 // Whether the bytes are a section and have that sheet.
 pub fn is_sheet_of(sheet: &[u64], section: &[u8]) -> bool
@@ -19,7 +20,7 @@ pub fn is_sheet_of(sheet: &[u64], section: &[u8]) -> bool
         let mut widths = [0u8; 2048];
         return same_sheet(sheet, section, &mut widths);
     }
-    let mut widths = [0u8; 32768];
+    let mut widths = [0u8; MOST_FIELDS];
     same_sheet(sheet, section, &mut widths)
 }
 

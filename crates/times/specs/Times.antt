@@ -7,11 +7,10 @@ use Rattle.units.specs.Clock.{ticks, clockSum}
 use Rattle.grammar.specs.Meaning.{isAmong}
 use Rattle.grammar.specs.Names.{look}
 use Rattle.section.specs.Accept.{the}
-use Rattle.opening.specs.First.{openOf}
+use Rattle.opening.specs.First.{openOf, asked}
 use Rattle.command_reading.specs.declared.answers.SpliceTime.{SpliceTime}
 use Rattle.command_reading.specs.declared.answers.Command.{Command}
 use Rattle.command_reading.specs.Command.{commandTrace, command}
-use Rattle.command_questions.specs.Questions.{asked}
 use Rattle.times.specs.declared.answers.EffectiveTime.{EffectiveTime}
 use Rattle.times.specs.declared.answers.Dvb.{Dvb}
 

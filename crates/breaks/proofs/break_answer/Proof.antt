@@ -2,7 +2,7 @@
 -- Assumes nothing.
 use mathlib.Core.Path.{sym, _∙_}
 use borrow.Author.Needs.{needs}
-use Rattle.command_questions.proofs.Asked.{when-open, when-refused}
+use Rattle.opening.proofs.Asked.{when-open, when-refused}
 use Rattle.breaks.specs.Breaks.{breakAnswer}
 use Rattle.breaks.proofs.break_answer.Statement.{statement}
 use Rattle.breaks.proofs.break_answer.Tie as tie

@@ -2,7 +2,7 @@
 -- Assumes nothing.
 use mathlib.Core.Path.{sym, _∙_}
 use borrow.Author.Needs.{needs}
-use Rattle.command_questions.proofs.Asked.{when-open, when-refused}
+use Rattle.opening.proofs.Asked.{when-open, when-refused}
 use Rattle.labels.specs.Labels.{billLabel}
 use Rattle.labels.proofs.label.Statement.{statement}
 use Rattle.labels.proofs.label.Tie as tie

@@ -4,7 +4,7 @@ use mathlib.Core.Path.{ap, sym, _∙_}
 use borrow.Author.Needs.{needs}
 use Rattle.descriptor_reading.specs.declared.answers.KnownCount.{KnownCount}
 use Rattle.reading.specs.Reading.{knownCount}
-use Rattle.command_questions.proofs.Asked.{when-open, when-refused}
+use Rattle.opening.proofs.Asked.{when-open, when-refused}
 use Rattle.reading.proofs.known_count.Statement.{statement}
 use Rattle.reading.proofs.known_count.Tie as tie
 

@@ -7,7 +7,7 @@ use Prim.Native.Nat.{ℕ}
 use native.Mathlib.Omega.{arith}
 use borrow.Author.Needs.{needs}
 use Rattle.grammar.specs.Meaning.{isAmong}
-use Rattle.command_questions.proofs.Asked.{when-open, when-refused}
+use Rattle.opening.proofs.Asked.{when-open, when-refused}
 use Rattle.times.specs.declared.answers.Dvb.{Dvb}
 use Rattle.times.specs.Times.{dvb}
 use Rattle.times.proofs.Header.{type-there, of-two, of-neither}

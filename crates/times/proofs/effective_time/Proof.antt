@@ -4,7 +4,7 @@ use mathlib.Core.Path.{sym, ap, _∙_}
 use Prim.Native.Nat.{ℕ}
 use borrow.Author.Needs.{needs}
 use Rattle.command_reading.specs.Command.{command}
-use Rattle.command_questions.proofs.Asked.{when-open, when-refused}
+use Rattle.opening.proofs.Asked.{when-open, when-refused}
 use Rattle.times.specs.Times.{effectiveBy, effectiveTime}
 use Rattle.times.proofs.Header.{adjustment-there}
 use Rattle.times.proofs.effective_time.Statement.{statement}
