@@ -1,11 +1,11 @@
--- `exports_house::numbers::dvb` meets its contract: the numbers of each case, or its refusal.
+-- `exports_times::numbers::dvb` meets its contract: the numbers of each case, or its refusal.
 -- Assumes nothing.
 use mathlib.Core.Path.{sym, ap}
 use borrow.Author.Needs.{needs}
-use Rattle.exports_house.specs.Numbers.{dvbNumbers}
+use Rattle.exports_times.specs.Numbers.{dvbNumbers}
 use Rattle.wire.proofs.Given.{given-as, not-given}
-use Rattle.exports_house.proofs.numbers.dvb.Statement.{statement}
-use Rattle.exports_house.proofs.numbers.dvb.Tie as tie
+use Rattle.exports_times.proofs.numbers.dvb.Statement.{statement}
+use Rattle.exports_times.proofs.numbers.dvb.Tie as tie
 
 enum-told : tie.Need-enum-told
 enum-told c = search needs

@@ -1,10 +1,10 @@
--- `exports_house::timpanimist_effective_time` meets its contract: it hands on what `house` answers, as numbers.
+-- `exports_times::timpanimist_effective_time` meets its contract: it hands on what `times` answers, as numbers.
 -- Assumes nothing.
 use borrow.Author.Needs.{needs}
-use Rattle.exports_house.specs.Numbers.{effectiveTimeNumbers}
+use Rattle.exports_times.specs.Numbers.{effectiveTimeNumbers}
 use Rattle.wire.proofs.Handed.{handed}
-use Rattle.exports_house.proofs.timpanimist_effective_time.Statement.{statement}
-use Rattle.exports_house.proofs.timpanimist_effective_time.Tie as tie
+use Rattle.exports_times.proofs.timpanimist_effective_time.Statement.{statement}
+use Rattle.exports_times.proofs.timpanimist_effective_time.Tie as tie
 
 effective-time-requires : tie.Need-effective-time-requires
 effective-time-requires c κs = search needs

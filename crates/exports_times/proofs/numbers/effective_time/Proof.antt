@@ -1,11 +1,11 @@
--- `exports_house::numbers::effective_time` meets its contract: the numbers of each case, or its refusal.
+-- `exports_times::numbers::effective_time` meets its contract: the numbers of each case, or its refusal.
 -- Assumes nothing.
 use mathlib.Core.Path.{sym, ap}
 use borrow.Author.Needs.{needs}
-use Rattle.exports_house.specs.Numbers.{effectiveTimeNumbers}
+use Rattle.exports_times.specs.Numbers.{effectiveTimeNumbers}
 use Rattle.wire.proofs.Given.{given-as, not-given}
-use Rattle.exports_house.proofs.numbers.effective_time.Statement.{statement}
-use Rattle.exports_house.proofs.numbers.effective_time.Tie as tie
+use Rattle.exports_times.proofs.numbers.effective_time.Statement.{statement}
+use Rattle.exports_times.proofs.numbers.effective_time.Tie as tie
 
 enum-told : tie.Need-enum-told
 enum-told c = search needs

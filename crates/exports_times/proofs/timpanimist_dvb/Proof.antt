@@ -1,10 +1,10 @@
--- `exports_house::timpanimist_dvb` meets its contract: it hands on what `house` answers, as numbers.
+-- `exports_times::timpanimist_dvb` meets its contract: it hands on what `times` answers, as numbers.
 -- Assumes nothing.
 use borrow.Author.Needs.{needs}
-use Rattle.exports_house.specs.Numbers.{dvbNumbers}
+use Rattle.exports_times.specs.Numbers.{dvbNumbers}
 use Rattle.wire.proofs.Handed.{handed}
-use Rattle.exports_house.proofs.timpanimist_dvb.Statement.{statement}
-use Rattle.exports_house.proofs.timpanimist_dvb.Tie as tie
+use Rattle.exports_times.proofs.timpanimist_dvb.Statement.{statement}
+use Rattle.exports_times.proofs.timpanimist_dvb.Tie as tie
 
 dvb-requires : tie.Need-dvb-requires
 dvb-requires c κs = search needs
