@@ -9,7 +9,7 @@ use Rattle.segmentation_reading.specs.declared.answers.Delivery.{Delivery}
 use Rattle.segmentation_reading.specs.declared.answers.Duration.{Duration}
 use Rattle.segmentation_reading.specs.declared.answers.SubSegments.{SubSegments}
 use Rattle.segmentation_reading.specs.declared.answers.Segmentation.{Segmentation}
-use Rattle.exports_descriptors.specs.Numbers.{segmentedNumbers, deliveryNumbers, durationNumbers, subSegmentNumbers, segmentationNumbers}
+use Rattle.segmentation_numbers.specs.Numbers.{segmentedNumbers, deliveryNumbers, durationNumbers, subSegmentNumbers, segmentationNumbers}
 
 pub segmented-short : (x : Mode) → length (segmentedNumbers x) ≤ 2
 segmented-short Mode.Program = lit≤ tt

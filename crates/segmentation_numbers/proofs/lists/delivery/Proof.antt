@@ -1,14 +1,14 @@
--- `exports_descriptors::lists::delivery` meets its contract: each case writes its number and its values.
+-- `segmentation_numbers::lists::delivery` meets its contract: each case writes its number and its values.
 -- Assumes nothing.
 use mathlib.Core.Path.{sym, ap, ap₂, _∙_}
 use mathlib.Core.List.{List, [], _∷_}
 use Prim.Native.Nat.{ℕ}
 use native.Mathlib.Omega.{arith}
 use borrow.Author.Needs.{needs}
-use Rattle.exports_descriptors.specs.Numbers.{deliveryNumbers}
+use Rattle.segmentation_numbers.specs.Numbers.{deliveryNumbers}
 use Rattle.wire.proofs.Placed.{stands, told}
-use Rattle.exports_descriptors.proofs.lists.delivery.Statement.{statement}
-use Rattle.exports_descriptors.proofs.lists.delivery.Tie as tie
+use Rattle.segmentation_numbers.proofs.lists.delivery.Statement.{statement}
+use Rattle.segmentation_numbers.proofs.lists.delivery.Tie as tie
 
 enum-told : tie.Need-enum-told
 enum-told c = search needs

@@ -1,13 +1,13 @@
--- `exports_descriptors::lists::segmentation` meets its contract: numbers and parts, each of which leaves room for the next.
+-- `segmentation_numbers::lists::segmentation` meets its contract: numbers and parts, each of which leaves room for the next.
 -- Assumes nothing.
 use Prim.Native.Nat.{_+_, _≤_}
 use native.Mathlib.Omega.{arith}
 use lib.ListN.{length}
 use borrow.Author.Needs.{needs}
 use Rattle.wire.proofs.Placed.{stands, both, as-long, room}
-use Rattle.exports_descriptors.proofs.Short.{segmented-short, delivery-short, duration-short}
-use Rattle.exports_descriptors.proofs.lists.segmentation.Statement.{statement}
-use Rattle.exports_descriptors.proofs.lists.segmentation.Tie as tie
+use Rattle.segmentation_numbers.proofs.Short.{segmented-short, delivery-short, duration-short}
+use Rattle.segmentation_numbers.proofs.lists.segmentation.Statement.{statement}
+use Rattle.segmentation_numbers.proofs.lists.segmentation.Tie as tie
 
 -- the room that is left after each part
 

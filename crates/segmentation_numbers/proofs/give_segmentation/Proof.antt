@@ -1,13 +1,13 @@
--- `exports_descriptors::numbers::give_segmentation` meets its contract: the numbers stand in front of a list that has room for them.
+-- `segmentation_numbers::give_segmentation` meets its contract: the numbers stand in front of a list that has room for them.
 -- Assumes nothing.
 use mathlib.Core.Path.{ap}
 use borrow.Author.Needs.{needs}
 use Rattle.wire.specs.Given.{these}
 use Rattle.wire.proofs.Placed.{front, front-inside, front-count}
-use Rattle.exports_descriptors.proofs.Short.{segmentation-short}
+use Rattle.segmentation_numbers.proofs.Short.{segmentation-short}
 use Rattle.wire.proofs.Given.{given-as}
-use Rattle.exports_descriptors.proofs.numbers.give_segmentation.Statement.{statement}
-use Rattle.exports_descriptors.proofs.numbers.give_segmentation.Tie as tie
+use Rattle.segmentation_numbers.proofs.give_segmentation.Statement.{statement}
+use Rattle.segmentation_numbers.proofs.give_segmentation.Tie as tie
 
 slice-aggregate-segmentation : tie.Need-slice-aggregate-segmentation
 slice-aggregate-segmentation c = search needs

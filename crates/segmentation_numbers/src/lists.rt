@@ -4,12 +4,12 @@ ghost use mathlib.Core.Path.{_≡_};
 ghost use Prim.Native.Nat.{_+_, _≤_};
 ghost use lib.ListN.{length};
 ghost use Rattle.wire.specs.Put.{Put};
-ghost use Rattle.exports_descriptors.specs.Numbers.{segmentedNumbers, deliveryNumbers, durationNumbers, subSegmentNumbers, segmentationNumbers};
-use descriptor_reading::Delivery;
-use descriptor_reading::Duration;
-use descriptor_reading::Mode;
-use descriptor_reading::Segmentation;
-use descriptor_reading::SubSegments;
+ghost use Rattle.segmentation_numbers.specs.Numbers.{segmentedNumbers, deliveryNumbers, durationNumbers, subSegmentNumbers, segmentationNumbers};
+use segmentation_reading::Delivery;
+use segmentation_reading::Duration;
+use segmentation_reading::Mode;
+use segmentation_reading::Segmentation;
+use segmentation_reading::SubSegments;
 
 fn segmented(list: &mut [u64], at: usize, x: Mode) -> usize
     requires { ⌜ at + 2 ≤ length (now list) ⌝ }
