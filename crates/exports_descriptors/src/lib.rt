@@ -1,6 +1,5 @@
 // What known descriptors say, for programs in other languages, as lists of numbers. A slice passes as a pointer and
 // then a length. The answer is the count of numbers written, or 2^63 plus the refusal's number.
-mod lists;
 mod numbers;
 
 ghost use mathlib.Core.Path.{_≡_};

@@ -1,11 +1,9 @@
 // What known descriptors say as lists of numbers, written to the front of out.
-use crate::lists;
 ghost use mathlib.Core.Path.{_≡_};
-ghost use Rattle.wire.specs.Given.{these, given, givenInto};
-ghost use Rattle.exports_descriptors.specs.Numbers.{knownCountNumbers, descriptorNumbers, segmentationNumbers};
+ghost use Rattle.wire.specs.Given.{given, givenInto};
+ghost use Rattle.exports_descriptors.specs.Numbers.{knownCountNumbers, descriptorNumbers};
 use descriptor_reading::Descriptor;
 use descriptor_reading::KnownCount;
-use descriptor_reading::Segmentation;
 use units::Written;
 
 // The count of known descriptors.
@@ -28,7 +26,10 @@ pub(crate) fn known_descriptor(answer: Descriptor, out: &mut [u64]) -> Written
             preroll,
             dtmf_count,
         } => wire::give_three(1, preroll as u64, dtmf_count as u64, out),
-        Descriptor::Segmentation(segmentation) => give_segmentation(segmentation, out),
+        Descriptor::Segmentation(segmentation) => segmentation_numbers::give_segmentation(
+            segmentation,
+            out,
+        ),
         Descriptor::CancelledSegmentation(id) => wire::give_two(3, id.0 as u64, out),
         Descriptor::Time {
             tai_seconds,
@@ -38,12 +39,4 @@ pub(crate) fn known_descriptor(answer: Descriptor, out: &mut [u64]) -> Written
         Descriptor::Audio(audio_count) => wire::give_two(5, audio_count as u64, out),
         Descriptor::Refused(refusal) => Written::Refused(refusal),
     }
-}
-
-fn give_segmentation(segmentation: Segmentation, out: &mut [u64]) -> Written
-    ensures { λ r. ⌜ (r ≡ given (these (segmentationNumbers segmentation)) (now (out .entry))) × (now (out .exit) ≡ givenInto (these (segmentationNumbers segmentation)) (now (out .entry))) ⌝ }
-{
-    let mut list = [0u64; 19];
-    let n = lists::segmentation(&mut list, 0, segmentation);
-    wire::give(&list[..n], out)
 }

@@ -1,11 +1,9 @@
--- The house's answers as lists of numbers: the number of the case and then its values.
+-- The break and the bill label as lists of numbers: the number of the case and then its values.
 -- Assumes nothing.
 use Prim.Native.Nat.{ℕ}
 use mathlib.Core.List.{[], _∷_}
 use Rattle.units.specs.Refusals.{numberOf}
 use Rattle.signals.specs.declared.Break.{Break}
-use Rattle.times.specs.declared.answers.EffectiveTime.{EffectiveTime}
-use Rattle.times.specs.declared.answers.Dvb.{Dvb}
 use Rattle.labels.specs.declared.answers.Label.{Label}
 use Rattle.wire.specs.Given.{Numbers, refused, these}
 
@@ -16,18 +14,6 @@ breakAnswerNumbers (Break.Measured t) = these (1 ∷ t .0 ∷ [])
 breakAnswerNumbers Break.Unmeasured = these (2 ∷ [])
 breakAnswerNumbers Break.Unread = these (3 ∷ [])
 breakAnswerNumbers (Break.Refused r) = refused (numberOf r)
-
--- no time, or a time on the stream's clock
-abbrev pub effectiveTimeNumbers : EffectiveTime → Numbers
-effectiveTimeNumbers EffectiveTime.None = these (0 ∷ [])
-effectiveTimeNumbers (EffectiveTime.At t) = these (1 ∷ t .0 ∷ [])
-effectiveTimeNumbers (EffectiveTime.Refused r) = refused (numberOf r)
-
--- 0 for no, 1 for yes
-abbrev pub dvbNumbers : Dvb → Numbers
-dvbNumbers Dvb.No = these (0 ∷ [])
-dvbNumbers Dvb.Yes = these (1 ∷ [])
-dvbNumbers (Dvb.Refused r) = refused (numberOf r)
 
 -- where the label lies, in the section or in the house's name of so many bytes, and how long it is
 abbrev pub labelNumbers : ℕ → Label → Numbers

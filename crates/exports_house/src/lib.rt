@@ -1,15 +1,14 @@
-// The house's answers for programs in other languages, as lists of numbers. A slice passes as a pointer and then a
-// length. The answer is the count of numbers written, or 2^63 plus the refusal's number.
+// The break and the bill label for programs in other languages, as lists of numbers. A slice passes as a pointer and then
+// a length. The answer is the count of numbers written, or 2^63 plus the refusal's number.
 mod numbers;
 
 ghost use mathlib.Core.Path.{_≡_};
 ghost use lib.ListN.{length};
 ghost use Rattle.breaks.specs.Breaks.{breakAnswer};
-ghost use Rattle.times.specs.Times.{effectiveTime, dvb};
 ghost use Rattle.labels.specs.Labels.{billLabel};
 ghost use Rattle.wire.specs.Wire.{wire};
 ghost use Rattle.wire.specs.Given.{given, givenInto};
-ghost use Rattle.exports_house.specs.Numbers.{breakAnswerNumbers, effectiveTimeNumbers, dvbNumbers, labelNumbers};
+ghost use Rattle.exports_house.specs.Numbers.{breakAnswerNumbers, labelNumbers};
 
 // Whether the section opens a break, and how long it lasts.
 #[no_mangle]
@@ -18,24 +17,6 @@ pub extern "C" fn timpanimist_break(section: &[u8], out: &mut [u64]) -> u64
 {
     let answer = house::break_answer(section);
     wire::number(numbers::break_answer(answer, out))
-}
-
-// When the splice takes place on the stream's own clock.
-#[no_mangle]
-pub extern "C" fn timpanimist_effective_time(section: &[u8], out: &mut [u64]) -> u64
-    ensures { λ r. ⌜ (r ≡ wire (given (effectiveTimeNumbers (effectiveTime (now (section .entry)))) (now (out .entry)))) × (now (out .exit) ≡ givenInto (effectiveTimeNumbers (effectiveTime (now (section .entry)))) (now (out .entry))) ⌝ }
-{
-    let answer = house::effective_time(section);
-    wire::number(numbers::effective_time(answer, out))
-}
-
-// Whether the section passes the first DVB-DASH check.
-#[no_mangle]
-pub extern "C" fn timpanimist_dvb(section: &[u8], out: &mut [u64]) -> u64
-    ensures { λ r. ⌜ (r ≡ wire (given (dvbNumbers (dvb (now (section .entry)))) (now (out .entry)))) × (now (out .exit) ≡ givenInto (dvbNumbers (dvb (now (section .entry)))) (now (out .entry))) ⌝ }
-{
-    let answer = house::dvb(section);
-    wire::number(numbers::dvb(answer, out))
 }
 
 // Which bytes the break is billed under: in which slice they lie, 0 the section and 1 the house's name, where in it, and how

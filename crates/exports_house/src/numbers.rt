@@ -1,10 +1,8 @@
-// The house's answers as lists of numbers, written to the front of out.
+// The break and the bill label as lists of numbers, written to the front of out.
 ghost use mathlib.Core.Path.{_≡_};
 ghost use Rattle.wire.specs.Given.{given, givenInto};
-ghost use Rattle.exports_house.specs.Numbers.{breakAnswerNumbers, effectiveTimeNumbers, dvbNumbers, labelNumbers};
+ghost use Rattle.exports_house.specs.Numbers.{breakAnswerNumbers, labelNumbers};
 use house::Break;
-use house::Dvb;
-use house::EffectiveTime;
 use house::Label;
 use units::Written;
 
@@ -18,28 +16,6 @@ pub(crate) fn break_answer(answer: Break, out: &mut [u64]) -> Written
         Break::Unmeasured => wire::give_one(2, out),
         Break::Unread => wire::give_one(3, out),
         Break::Refused(refusal) => Written::Refused(refusal),
-    }
-}
-
-// When a splice takes place on the stream's own clock.
-pub(crate) fn effective_time(answer: EffectiveTime, out: &mut [u64]) -> Written
-    ensures { λ r. ⌜ (r ≡ given (effectiveTimeNumbers answer) (now (out .entry))) × (now (out .exit) ≡ givenInto (effectiveTimeNumbers answer) (now (out .entry))) ⌝ }
-{
-    match answer {
-        EffectiveTime::None => wire::give_one(0, out),
-        EffectiveTime::At(ticks) => wire::give_two(1, ticks.0, out),
-        EffectiveTime::Refused(refusal) => Written::Refused(refusal),
-    }
-}
-
-// The first DVB-DASH check.
-pub(crate) fn dvb(answer: Dvb, out: &mut [u64]) -> Written
-    ensures { λ r. ⌜ (r ≡ given (dvbNumbers answer) (now (out .entry))) × (now (out .exit) ≡ givenInto (dvbNumbers answer) (now (out .entry))) ⌝ }
-{
-    match answer {
-        Dvb::No => wire::give_one(0, out),
-        Dvb::Yes => wire::give_one(1, out),
-        Dvb::Refused(refusal) => Written::Refused(refusal),
     }
 }
 

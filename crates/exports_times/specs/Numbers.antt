@@ -1,0 +1,19 @@
+-- The effective time and the DVB-DASH check as lists of numbers: the number of the case and then its values.
+-- Assumes nothing.
+use mathlib.Core.List.{[], _∷_}
+use Rattle.units.specs.Refusals.{numberOf}
+use Rattle.times.specs.declared.answers.EffectiveTime.{EffectiveTime}
+use Rattle.times.specs.declared.answers.Dvb.{Dvb}
+use Rattle.wire.specs.Given.{Numbers, refused, these}
+
+-- no time, or a time on the stream's clock
+abbrev pub effectiveTimeNumbers : EffectiveTime → Numbers
+effectiveTimeNumbers EffectiveTime.None = these (0 ∷ [])
+effectiveTimeNumbers (EffectiveTime.At t) = these (1 ∷ t .0 ∷ [])
+effectiveTimeNumbers (EffectiveTime.Refused r) = refused (numberOf r)
+
+-- 0 for no, 1 for yes
+abbrev pub dvbNumbers : Dvb → Numbers
+dvbNumbers Dvb.No = these (0 ∷ [])
+dvbNumbers Dvb.Yes = these (1 ∷ [])
+dvbNumbers (Dvb.Refused r) = refused (numberOf r)
