@@ -67,7 +67,7 @@ fn give(answer: Turn, turn: &mut [u64]) -> Written
 fn held_of(n: u64) -> Held
     ensures { λ r. ⌜ r ≡ heldOf n ⌝ }
 {
-    if n <= MOST_TEXT {
+    if n <= MOST_TEXT as u64 {
         Held::Characters(n as usize)
     } else {
         Held::TooLong
