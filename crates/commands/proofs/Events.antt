@@ -1,11 +1,11 @@
 -- An event of Tables 9 and 10: its id and its cancel bit, after which a cancelled one ends.
 -- Assumes nothing.
-use mathlib.Core.Path.{_≡_, refl}
+use mathlib.Core.Path.{_≡_}
 use mathlib.Core.List.{List, [], _∷_}
 use Prim.Native.Nat.{ℕ, _+_, _*_, _≤_, _<_}
 use native.Mathlib.Omega.{arith}
 use lib.ListN.{getD}
-use Rattle.bits.specs.Bits.{bit, num}
+use Rattle.bits.specs.Bits.{bit}
 use Rattle.grammar.specs.Syntax.{Item, Prog, field, reserved, is, done, fields, branch}
 use Rattle.grammar.specs.Meaning.{Env, bind, Outcome, ends}
 use Rattle.grammar.proofs.Run.{Runs, pass, yes-last, no-last, finished, at-place}

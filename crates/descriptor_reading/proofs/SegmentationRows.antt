@@ -14,7 +14,7 @@ use Rattle.bits.proofs.Num.{num-lt}
 use Rattle.bits.proofs.Bytes.{bit-lt}
 use Rattle.bits.proofs.Within.{field-there, there}
 use Rattle.grammar.specs.Syntax.{Item, Test, Prog, field, reserved, among, more, done, fields, branch, call}
-use Rattle.grammar.specs.Meaning.{Env, valueOf, values, isAmong, holds, read}
+use Rattle.grammar.specs.Meaning.{Env, valueOf, values, isAmong, holds}
 use Rattle.grammar.specs.Tables.{delivery, segmentation-components, sub-segmented, segmentation-end, segmentation-descriptor}
 use Rattle.grammar.specs.Traces.{Trace}
 use Rattle.grammar.proofs.Telling.{Tells, so, place, over, rows, arm, arm-last, sub, sub-last, alike, many}

@@ -1,7 +1,7 @@
 -- The value of a reserved field moves nothing else, by any grammar.
 -- Assumes nothing.
 use mathlib.Core.Path.{_≡_, refl, sym}
-use mathlib.Core.List.{List, [], _∷_, _++_}
+use mathlib.Core.List.{[], _∷_, _++_}
 use Prim.Native.Nat.{ℕ, _+_}
 use Rattle.bits.specs.Bits.{num}
 use Rattle.bits.proofs.Num.{Bits}

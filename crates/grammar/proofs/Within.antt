@@ -2,11 +2,9 @@
 -- Assumes nothing.
 use mathlib.Core.Path.{_≡_, refl, ap, subst}
 use Prim.Native.Nat.{ℕ, _*_, _≤_}
-use mathlib.Core.List.{List}
 use native.Mathlib.Omega.{arith}
-use Rattle.grammar.specs.Syntax.{Item, Prog}
+use Rattle.grammar.specs.Syntax.{Prog}
 use Rattle.grammar.specs.Meaning.{Env, Reading, broken, reached, read, Outcome, breach, ends, endOf, run}
-use Rattle.grammar.proofs.Run.{Runs}
 use Rattle.grammar.proofs.Ends.{ends-within}
 
 -- the place of an outcome, where it has one

@@ -11,9 +11,9 @@ use lib.Dec.{eqb}
 use Rattle.bits.specs.Bits.{bit, num, fieldOf}
 use Rattle.bits.proofs.Within.{field-there}
 use Rattle.grammar.specs.Syntax.{Test, Prog, field, is, done, branch}
-use Rattle.grammar.specs.Meaning.{Env, valueOf, values, bind, holds, Reading, broken, reached, read, endOf, ends, run}
+use Rattle.grammar.specs.Meaning.{Env, valueOf, values, bind, holds, read, ends, run}
 use Rattle.grammar.specs.Tables.{bytes, known-descriptor, splice-descriptor}
-use Rattle.grammar.specs.Traces.{Trace, traceOf}
+use Rattle.grammar.specs.Traces.{Trace}
 use Rattle.grammar.proofs.Ends.{covers}
 use Rattle.grammar.proofs.Readings.{Reads, rows-parts, arm-parts, frame-parts, reached-at}
 use Rattle.descriptors.specs.declared.Cursor.{Cursor}

@@ -14,7 +14,7 @@ use borrow.Author.Tests.{le-leb, ltb-true, lt-ltb}
 use Rattle.units.proofs.Put.{sets-append}
 use Rattle.bits.specs.Bits.{num}
 use Rattle.grammar.specs.Syntax.{Item, Prog, done, stop, fields, branch, call, repeat, frame, fill, under}
-use Rattle.grammar.specs.Meaning.{Env, valueOf, widthOf, width, values, bind, bindOne, holds, Reading, broken, reached, after, then, again, sweep, exactly, numbered, read}
+use Rattle.grammar.specs.Meaning.{Env, valueOf, widthOf, width, values, bind, bindOne, holds, Reading, broken, reached, then, again, sweep, exactly, read}
 use Rattle.grammar.specs.Traces.{Trace, rowsOf, size}
 use Rattle.grammar.proofs.Ends.{Gives, breaks, gives, given, when-gives, after-gives, then-gives, numbered-gives}
 use Rattle.grammar.proofs.Traces.{size-append, size-values}

@@ -13,15 +13,15 @@ use lib.Dec.{leb, ltb, eqb}
 use lib.Text.{eqt}
 use borrow.Author.Tests.{leb-true, le-leb}
 use Rattle.bits.specs.Bits.{bit, num}
-use Rattle.grammar.specs.Syntax.{Prog, field, is, done, fields, branch, under}
-use Rattle.grammar.specs.Meaning.{Env, valueOf, width, values, bind, Reading, broken, reached, then, sweep, read}
+use Rattle.grammar.specs.Syntax.{Prog, field, is, done, fields, branch}
+use Rattle.grammar.specs.Meaning.{Env, valueOf, values, bind, Reading, broken, reached, then, sweep, read}
 use Rattle.grammar.specs.Tables.{header, bytes, payload, splice-info-section, sized-command, command, splice-schedule, schedule-event, schedule-times, avails, break-duration, avail-numbers, splice-insert, insert-times, insert-component, splice-time, private-command, descriptor-loop, splice-descriptor, known-descriptor, avail-descriptor, dtmf-descriptor, segmentation-descriptor, delivery, segmentation-components, segmentation-end, time-descriptor, audio-descriptor}
 use Rattle.grammar.specs.Traces.{Trace, rowsOf, size}
 use Rattle.grammar.proofs.Endless.{endless}
 use Rattle.grammar.proofs.Ends.{Gives, gives, given, when-gives, then-gives, after-gives, covers, ends-within}
 use Rattle.grammar.proofs.Readings.{Reads, rows-parts, arm-parts, under-parts}
 use Rattle.grammar.proofs.Scope.{Agree, scoped, same-read}
-use Rattle.fields.specs.Fields.{Source, source, Plan, total, advance, laid, names, timesOn, walk}
+use Rattle.fields.specs.Fields.{Source, source, Plan, total, advance, laid, timesOn, walk}
 use Rattle.layout.specs.Layout.{headerWidths, begun, opening, left, rest, planOf}
 use Rattle.layout.proofs.Follows.{traceWidths, widths-append, length-widths, total-size, advance-append, advance-none, laid-all, Tells, tells-parts, lays-trace}
 use Rattle.layout.proofs.Shape.{any-end}

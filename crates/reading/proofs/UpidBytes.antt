@@ -4,9 +4,8 @@ use mathlib.Core.Path.{_≡_, refl, sym, ap, _∙_}
 use mathlib.Core.List.{List}
 use Prim.Native.Nat.{ℕ, _+_, _≤_}
 use native.Mathlib.Omega.{arith}
-use lib.ListN.{length, take, drop}
+use lib.ListN.{length}
 use Rattle.bits.proofs.Bytes.{AreBytes}
-use Rattle.units.specs.declared.refusals.Refusal.{Refusal}
 use Rattle.grammar.specs.Names.{allOf}
 use Rattle.descriptors.specs.declared.Cursor.{Cursor}
 use Rattle.opening.specs.declared.Opened.{Opened}

@@ -1,6 +1,5 @@
 // The numbers of a segmentation descriptor and of its parts, put into a list from a place on. Each function answers the
 // place after them.
-ghost use mathlib.Core.Path.{_≡_};
 ghost use Prim.Native.Nat.{_+_, _≤_};
 ghost use lib.ListN.{length};
 ghost use Rattle.wire.specs.Put.{Put};

@@ -6,11 +6,10 @@ use mathlib.Core.List.{List, [], _∷_, _++_}
 use Prim.Native.Nat.{ℕ, zero, suc, _+_, _-_, _*_, _^_, _≤_, _<_}
 use native.Mathlib.Nat.{add-assoc, add-zero}
 use native.Mathlib.Omega.{arith}
-use lib.ListN.{length, getD, take, drop, replicate, length-replicate, length-take, length-drop, take-append-drop, List·getD-eq-default}
+use lib.ListN.{length, take, drop, replicate, length-replicate, length-take, length-drop, take-append-drop, List·getD-eq-default}
 use lib.Seq.{take-all, take-length, length-take-le, getD-take}
 use mathlib.Core.Logic.{⊎-elim}
 use Rattle.bits.proofs.Cases.{le-or-lt}
-use lib.Dec.{leb, eqb}
 use borrow.Author.Tests.{le-leb, lt-leb, eq-eqb}
 use Rattle.bits.specs.Bits.{bit, num, writtenOf, writeAll}
 use Rattle.bits.proofs.Num.{num-lt}
@@ -18,7 +17,7 @@ use Rattle.bits.proofs.Bytes.{AreBytes, bit-lt, bits-ext}
 use Rattle.bits.proofs.Within.{narrow, field-in, can-write}
 use Rattle.bits.proofs.Parts.{bit-left, num-in-part}
 use Rattle.bits.proofs.Fields.{within-length, length-written, written-bytes, write-read, all-elsewhere, length-all}
-use Rattle.crc.specs.Crc.{crc32, be32}
+use Rattle.crc.specs.Crc.{crc32}
 use Rattle.crc.proofs.Residue.{crc32-lt, be32-num, last-four}
 use Rattle.grammar.specs.Syntax.{field}
 use Rattle.grammar.specs.Meaning.{widthOf, values}

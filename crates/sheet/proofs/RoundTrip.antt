@@ -17,7 +17,6 @@ use Rattle.bits.proofs.Fields.{written-bytes}
 use Rattle.crc.specs.Crc.{crc32}
 use Rattle.units.specs.declared.refusals.Refusal.the-variants.{Sheet}
 use Rattle.units.specs.declared.refusals.Written.the-variants.{Count, Refused}
-use Rattle.units.specs.Refusals.{first}
 use Rattle.units.specs.Answers.{answer, memory}
 use Rattle.section.specs.declared.Verdict.{Verdict}
 use Rattle.section.specs.declared.Verdict.the-variants.{Accepted}

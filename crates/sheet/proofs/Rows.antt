@@ -3,24 +3,19 @@
 use mathlib.Core.Path.{_≡_, refl, sym, ap, ap₂, _∙_}
 use mathlib.Core.Bool.{Bool, true, false, cond, not, _&&_}
 use mathlib.Core.List.{List, [], _++_}
-use Prim.Native.Nat.{ℕ, zero, suc, _+_, _≤_, _<_}
+use Prim.Native.Nat.{ℕ, _+_, _≤_, _<_}
 use native.Mathlib.Omega.{arith}
 use lib.ListN.{length, take, drop, replicate}
 use lib.Dec.{leb, ltb, eqb}
 use borrow.Author.Tests.{le-leb, leb-true, leb-false, lt-ltb, le-ltb, eq-eqb, eqb-true}
 use Rattle.bits.proofs.Cases.{is-false, and-left, and-right}
-use Rattle.units.specs.declared.refusals.Refusal.{Refusal}
 use Rattle.units.specs.declared.refusals.Refusal.the-variants.{Room, Sheet}
 use Rattle.units.specs.declared.refusals.Written.{Written}
 use Rattle.units.specs.declared.refusals.Written.the-variants.{Count, Refused}
 use Rattle.units.specs.Answers.{answer, memory}
 use Rattle.units.specs.Put.{fits, putInto}
 use Rattle.units.proofs.Put.{at-front, unchanged}
-use Rattle.section.specs.declared.Verdict.{Verdict}
-use Rattle.section.specs.declared.Verdict.the-variants.{Accepted}
 use Rattle.section.specs.Accept.{acceptRow, verdict, acceptOf}
-use Rattle.section.proofs.Accepted.{accepted-row}
-use Rattle.units.specs.Refusals.{orElse}
 use Rattle.sheet.specs.Sheet.{planFor, lengthFor, fitting, filled, summed, sectionOf, isAccepted, isSheetOf, roomFor, rowFor, Judged, sectionRow, toSection, toSectionInto}
 
 -- no bytes are no section

@@ -4,13 +4,13 @@
 use mathlib.Core.Path.{_≡_, refl, sym, ap, ap₂, _∙_, subst}
 use mathlib.Core.Bool.{Bool, cond}
 use mathlib.Core.List.{List, [], _∷_, _++_, append-assoc}
-use Prim.Native.Nat.{ℕ, zero, suc, _+_, _-_, _*_, _/_, _^_, _≤_, _<_}
+use Prim.Native.Nat.{ℕ, suc, _+_, _-_, _*_, _/_, _^_, _≤_, _<_}
 use native.Mathlib.Omega.{arith}
 use lib.ListN.{length, getD, take, drop, length-append}
 use lib.Seq.{sets, sets-eq, take-append-seam, length-take-le}
 use borrow.Author.Tests.{ne-eqb, lt-ltb}
 use Rattle.units.proofs.Put.{sets-append}
-use Rattle.bits.specs.Bits.{bit, num, within, fieldOf, readAll}
+use Rattle.bits.specs.Bits.{bit, num, fieldOf, readAll}
 use Rattle.bits.proofs.Num.{num-lt}
 use Rattle.bits.proofs.Bytes.{bit-lt}
 use Rattle.bits.proofs.Within.{field-there}
@@ -19,7 +19,7 @@ use Rattle.grammar.specs.Traces.{Trace, rowsOf, size, numbers, spans}
 use Rattle.fields.specs.declared.Place.{Place}
 use Rattle.section.specs.declared.Verdict.the-variants.{Accepted}
 use Rattle.section.specs.Accept.{acceptOf}
-use Rattle.fields.specs.Fields.{plan, held, source, Plan, total, advance}
+use Rattle.fields.specs.Fields.{plan, held, source, Plan, advance}
 use Rattle.layout.specs.Layout.{headerWidths, left, planOf}
 use Rattle.layout.proofs.Follows.{traceWidths, length-widths, total-size, Tells}
 use Rattle.layout.proofs.Planned.{Told, start}

@@ -1,8 +1,8 @@
 -- What the way from a section to its sheet answers, row by row, and what lent memory then holds.
 -- Assumes nothing.
-use mathlib.Core.Path.{_≡_, refl, sym, ap, ap₂, _∙_}
+use mathlib.Core.Path.{_≡_, refl, sym, ap, ap₂}
 use mathlib.Core.Bool.{Bool, true, false, cond}
-use mathlib.Core.List.{List, [], _++_}
+use mathlib.Core.List.{List, _++_}
 use Prim.Native.Nat.{ℕ, zero, suc, _≤_, _<_}
 use native.Mathlib.Omega.{arith}
 use lib.ListN.{length, drop}
@@ -10,7 +10,6 @@ use lib.Dec.{ltb}
 use borrow.Author.Tests.{lt-ltb, le-ltb}
 use Rattle.units.specs.declared.refusals.Refusal.{Refusal}
 use Rattle.units.specs.declared.refusals.Refusal.the-variants.{Room}
-use Rattle.units.specs.declared.refusals.Written.{Written}
 use Rattle.units.specs.declared.refusals.Written.the-variants.{Count, Refused}
 use Rattle.units.specs.Answers.{answer, memory}
 use Rattle.section.specs.declared.Verdict.{Verdict}

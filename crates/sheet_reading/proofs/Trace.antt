@@ -3,14 +3,14 @@
 -- Assumes nothing.
 use mathlib.Core.Path.{_≡_, refl, sym, ap, _∙_, subst}
 use mathlib.Core.List.{List, [], _∷_, _++_}
-use Prim.Native.Nat.{ℕ, zero, suc, _+_, _-_, _*_, _≤_}
+use Prim.Native.Nat.{ℕ, suc, _+_, _-_, _*_, _≤_}
 use native.Mathlib.Nat.{add-assoc, add-zero}
 use native.Mathlib.Omega.{arith}
 use lib.ListN.{length}
 use Rattle.bits.specs.Bits.{bit, num}
 use Rattle.grammar.specs.Syntax.{Item, field, reserved}
 use Rattle.grammar.specs.Meaning.{widthOf, values, reached, read}
-use Rattle.grammar.specs.Tables.{header, splice-info-section}
+use Rattle.grammar.specs.Tables.{splice-info-section}
 use Rattle.grammar.specs.Traces.{Trace, rowsOf, size, numbers, spans, traceOf}
 use Rattle.grammar.proofs.Ends.{covers, trace-spans, ends-within}
 use Rattle.layout.proofs.Shape.{Thin, thin-length, section-thin}

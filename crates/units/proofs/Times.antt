@@ -1,7 +1,7 @@
 -- Milliseconds are the only ones with 90 m ≤ t < 90 m + 90; the clock's sum is a sum of a clock of 2 ^ 33 ticks.
 -- Assumes nothing.
 use mathlib.Core.Path.{_≡_, ap}
-use Prim.Native.Nat.{ℕ, _+_, _-_, _*_, _/_, _%_, _^_, _≤_, _<_}
+use Prim.Native.Nat.{_+_, _*_, _/_, _%_, _^_, _≤_, _<_}
 use native.Mathlib.Omega.{arith}
 use Rattle.units.specs.declared.clock.Ticks.{Ticks}
 use Rattle.units.specs.declared.clock.Millis.{Millis}

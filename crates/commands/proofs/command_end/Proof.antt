@@ -1,13 +1,13 @@
 -- `commands::command_end` meets its contract: it takes the two ways of the header's length, and the table by the type.
 -- Assumes nothing.
 use mathlib.Core.Path.{_≡_, refl, sym, ap, _∙_}
-use mathlib.Core.Bool.{Bool, true, false, cond}
+use mathlib.Core.Bool.{Bool, cond}
 use mathlib.Core.List.{List}
 use Prim.Native.Nat.{ℕ, _+_, _-_, _*_, _≤_, _<_}
 use native.Mathlib.Omega.{arith}
 use lib.ListN.{length, getD}
 use borrow.Author.Tests.{lt-ltb, le-ltb, eq-eqb, ne-eqb}
-use Rattle.bits.specs.Bits.{bit, num}
+use Rattle.bits.specs.Bits.{bit}
 use Rattle.bits.proofs.Within.{field-there}
 use Rattle.grammar.specs.Syntax.{stop}
 use Rattle.grammar.specs.Meaning.{valueOf, run, breach, ends}

@@ -1,7 +1,7 @@
 -- `commands::schedule_times` meets its contract: one time for the program, or five bytes a component.
 -- Assumes nothing.
 use mathlib.Core.Path.{refl, sym, _∙_}
-use Prim.Native.Nat.{ℕ, _-_, _*_}
+use Prim.Native.Nat.{ℕ, _*_}
 use native.Mathlib.Omega.{arith}
 use borrow.Author.Tests.{eq-eqb, ne-eqb}
 use lib.ListN.{getD}

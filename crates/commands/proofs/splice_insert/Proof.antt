@@ -2,10 +2,9 @@
 -- Assumes nothing.
 use mathlib.Core.Path.{_≡_, refl, ap, _∙_}
 use mathlib.Core.List.{[], _∷_}
-use Prim.Native.Nat.{_+_, _-_, _*_}
+use Prim.Native.Nat.{_+_, _*_}
 use native.Mathlib.Omega.{arith}
 use Rattle.bits.specs.Bits.{bit}
-use Rattle.grammar.specs.Meaning.{ends}
 use Rattle.grammar.specs.Tables.{splice-insert, insert-times}
 use Rattle.grammar.specs.Ended.{outcome}
 use Rattle.grammar.proofs.Run.{becomes, pass, short, called, called-last, at-place}

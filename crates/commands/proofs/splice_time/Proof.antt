@@ -4,7 +4,7 @@ use mathlib.Core.Path.{refl}
 use native.Mathlib.Omega.{arith}
 use Rattle.grammar.specs.Tables.{splice-time}
 use Rattle.grammar.proofs.Run.{pass, short, yes, no, finished}
-use Rattle.grammar.proofs.Places.{flag, flag-test}
+use Rattle.grammar.proofs.Places.{flag-test}
 use Prim.Native.Nat.{_*_}
 use borrow.Author.Needs.{needs}
 use Rattle.commands.proofs.splice_time.Statement.{statement}

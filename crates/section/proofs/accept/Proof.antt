@@ -1,14 +1,12 @@
 -- `section::accept` meets its contract: each test rules its row out, and the last ones are the grammar's.
 -- Assumes nothing.
 use mathlib.Core.Path.{_≡_, refl, sym, ap, ap₂, _∙_}
-use mathlib.Core.Bool.{Bool, true, false, cond, not, _&&_, _||_}
-use mathlib.Core.List.{List, [], _∷_}
-use Prim.Native.Nat.{ℕ, _+_, _-_, _*_, _/_, _%_, _≤_, _<_}
+use mathlib.Core.Bool.{Bool, not, _&&_}
+use mathlib.Core.List.{List}
+use Prim.Native.Nat.{ℕ, _-_}
 use native.Mathlib.Omega.{arith}
-use lib.ListN.{length, getD}
-use Rattle.bits.specs.Bits.{bit, num}
+use lib.ListN.{length}
 use Rattle.bits.proofs.Within.{field-there}
-use Rattle.grammar.specs.Meaning.{Env, valueOf, bind, run, ends, breach}
 use lib.Dec.{ltb, eqb}
 use borrow.Author.Tests.{lt-ltb, le-ltb, ne-eqb}
 use Rattle.bits.proofs.Bytes.{AreBytes}
@@ -16,7 +14,7 @@ use Rattle.crc.specs.Crc.{crc32}
 use Rattle.units.proofs.Rows.{Row, miss, hit}
 use Rattle.section.specs.declared.Verdict.{Verdict}
 use Rattle.section.specs.declared.Verdict.the-variants.{Accepted}
-use Rattle.section.specs.Accept.{acceptRows, the, grammarOf, acceptRow, verdict, acceptOf, judged}
+use Rattle.section.specs.Accept.{acceptRows, the, acceptRow, verdict, acceptOf, judged}
 use Rattle.section.proofs.Rows.{table, no-table, syntax-clear, syntax-set, size, too-long, other-length, version-0, other-version, clear, sealed, whole, sealed-whole, last-row}
 use borrow.Author.Needs.{needs}
 use Rattle.section.proofs.accept.Statement.{statement}

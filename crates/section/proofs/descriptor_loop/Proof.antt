@@ -1,16 +1,15 @@
 -- `section::descriptor_loop` meets its contract: the loop's length, the descriptors in that part, and stuffing up to the CRC.
 -- Assumes nothing.
 use mathlib.Core.Path.{_≡_, refl, sym, ap, _∙_}
-use mathlib.Core.Bool.{Bool, true, false, cond, not, _&&_, _||_}
-use mathlib.Core.List.{List, [], _∷_}
-use Prim.Native.Nat.{ℕ, _+_, _-_, _*_, _/_, _%_, _≤_, _<_}
+use mathlib.Core.Bool.{Bool, cond}
+use Prim.Native.Nat.{ℕ, _+_, _-_, _*_}
 use native.Mathlib.Omega.{arith}
-use lib.ListN.{length, getD}
+use lib.ListN.{length}
 use Rattle.bits.specs.Bits.{bit, num}
 use Rattle.bits.proofs.Within.{field-there}
-use Rattle.grammar.specs.Meaning.{Env, valueOf, bind, run, ends, breach}
+use Rattle.grammar.specs.Meaning.{ends, breach}
 use Rattle.grammar.specs.Tables.{descriptor-loop}
-use Rattle.grammar.proofs.Run.{Runs, becomes, pass, short, ruled, framed-all, framed-off, frame-short, filled-last, swept-bytes, finished, at-place}
+use Rattle.grammar.proofs.Run.{pass, short, ruled, framed-all, framed-off, frame-short, filled-last, swept-bytes, finished, at-place}
 use borrow.Author.Needs.{needs}
 use Rattle.section.proofs.descriptor_loop.Statement.{statement}
 use Rattle.section.proofs.descriptor_loop.Tie as tie

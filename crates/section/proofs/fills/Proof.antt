@@ -2,15 +2,14 @@
 -- comes to.
 -- Assumes nothing.
 use mathlib.Core.Path.{_≡_, refl, sym, ap, _∙_}
-use mathlib.Core.Bool.{Bool, true, false, cond}
-use Prim.Native.Nat.{ℕ, _+_, _-_, _*_, _≤_, _<_}
+use Prim.Native.Nat.{ℕ, _-_, _*_, _≤_}
 use native.Mathlib.Omega.{arith}
 use borrow.Author.Needs.{needs}
 use Rattle.bits.specs.Bits.{bit}
-use Rattle.grammar.specs.Meaning.{Env, run, ends, breach}
+use Rattle.grammar.specs.Meaning.{Env, run, ends}
 use Rattle.grammar.specs.Tables.{splice-descriptor}
 use Rattle.grammar.proofs.Run.{swept, swept-end, swept-on, swept-off}
-use Rattle.descriptors.proofs.Walk.{Stepped, Stuck, stepped, stuck, at-end}
+use Rattle.descriptors.proofs.Walk.{Stepped, stepped, stuck, at-end}
 use Rattle.section.proofs.fills.Statement.{statement}
 use Rattle.section.proofs.fills.Tie as tie
 

@@ -1,17 +1,16 @@
 -- `section::payload` meets its contract: the command within its rule, and then the loop.
 -- Assumes nothing.
 use mathlib.Core.Path.{_≡_, refl, sym, ap, _∙_}
-use mathlib.Core.Bool.{Bool, true, false, cond, not, _&&_, _||_}
-use mathlib.Core.List.{List, [], _∷_}
-use Prim.Native.Nat.{ℕ, _+_, _-_, _*_, _/_, _%_, _≤_, _<_}
+use mathlib.Core.Bool.{Bool, cond}
+use Prim.Native.Nat.{_-_, _*_}
 use native.Mathlib.Omega.{arith}
-use lib.ListN.{length, getD}
-use Rattle.bits.specs.Bits.{bit, num}
-use Rattle.grammar.specs.Meaning.{Env, valueOf, bind, run, ends, breach}
+use lib.ListN.{length}
+use Rattle.bits.specs.Bits.{bit}
+use Rattle.grammar.specs.Meaning.{run, breach}
 use borrow.Author.Tests.{le-ltb}
-use Rattle.grammar.specs.Tables.{payload, sized-command, header}
+use Rattle.grammar.specs.Tables.{payload, sized-command}
 use Rattle.grammar.specs.Ended.{outcome}
-use Rattle.grammar.proofs.Run.{Runs, pass, ruled}
+use Rattle.grammar.proofs.Run.{pass, ruled}
 use Rattle.grammar.proofs.Within.{byte-within}
 use Rattle.commands.specs.Command.{known, commandEnd}
 use borrow.Author.Needs.{needs}

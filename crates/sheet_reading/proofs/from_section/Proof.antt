@@ -2,7 +2,6 @@
 -- Assumes nothing.
 use mathlib.Core.Path.{sym, _∙_}
 use native.Mathlib.Omega.{arith}
-use lib.ListN.{length}
 use Rattle.section.proofs.Accepted.{accepted}
 use Rattle.sheet_reading.proofs.SheetRows.{not-accepted}
 use borrow.Author.Needs.{needs}
