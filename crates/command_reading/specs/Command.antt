@@ -54,6 +54,7 @@ abbrev pub insertTime : Trace → SpliceTime
 insertTime t =
     cond (isSet t "splice_immediate_flag") SpliceTime.Immediate (cond (isSet t "program_splice_flag") (timeOf t) SpliceTime.NotGiven)
 
+-- of the whole program, or of so many components
 abbrev pub modeOf : Trace → Mode
 modeOf t = cond (isSet t "program_splice_flag") Mode.Program (Mode.Components (look t "component_count"))
 
@@ -61,6 +62,7 @@ modeOf t = cond (isSet t "program_splice_flag") Mode.Program (Mode.Components (l
 abbrev pub breakOf : Trace → BreakDuration
 breakOf t = cond (isSet t "duration_flag") (BreakDuration.Present (isSet t "auto_return") (ticks (look t "duration"))) BreakDuration.Absent
 
+-- what stands at the end of an event
 abbrev pub availsOf : Trace → Avails
 availsOf t =
     record {

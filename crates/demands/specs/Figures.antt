@@ -14,9 +14,11 @@ text004 =
     ∷ 79 ∷ 51 ∷ 47 ∷ 80 ∷ 65 ∷ 65 ∷ 69 ∷ 85 ∷ 114 ∷ 69 ∷ 111 ∷ 73 ∷ 67 ∷ 65 ∷ 65 ∷ 65 ∷ 65 ∷ 65 ∷ 65 ∷ 103
     ∷ 43 ∷ 50 ∷ 85 ∷ 66 ∷ 78 ∷ 65 ∷ 65 ∷ 65 ∷ 78 ∷ 118 ∷ 114 ∷ 116 ∷ 111 ∷ 81 ∷ 61 ∷ 61 ∷ []
 
+-- ticks as milliseconds
 abbrev pub millisIn : ℕ → ℕ
 millisIn t = millisOf (ticks t) .0
 
+-- the sum of two times on the 33-bit clock
 abbrev pub clock : ℕ → ℕ → ℕ
 clock a b = clockSum (ticks a) (ticks b) .0
 

@@ -14,6 +14,7 @@ abbrev pub unplaced : Upid → Upid
 unplaced (Upid.Part at n) = Upid.Part 0 n
 unplaced (Upid.Refused r) = Upid.Refused r
 
+-- two sections of which every question has the same answer
 pub record OneCue (s s′ : List ℕ) : Type 0 where
   -- the command
   pub command : Asks.command s ≡ Asks.command s′

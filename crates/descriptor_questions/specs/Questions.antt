@@ -10,11 +10,14 @@ use Rattle.descriptor_reading.specs.declared.answers.AudioComponent.{AudioCompo
 use Rattle.known_walk.specs.Known.{knownTrace}
 use Rattle.descriptor_reading.specs.Descriptor.{dtmfCharOf, segmentationComponentOf, audioComponentOf}
 
+-- character m of a DTMF descriptor
 unfoldable pub dtmfChar : List ℕ → ℕ → ℕ → DtmfChar
 dtmfChar s n m = asked (openOf s) DtmfChar.Refused (λ c. dtmfCharOf (knownTrace s c n) m)
 
+-- component m of a segmentation descriptor
 unfoldable pub segmentationComponent : List ℕ → ℕ → ℕ → SegmentationComponent
 segmentationComponent s n m = asked (openOf s) SegmentationComponent.Refused (λ c. segmentationComponentOf (knownTrace s c n) m)
 
+-- component m of an audio descriptor
 unfoldable pub audioComponent : List ℕ → ℕ → ℕ → AudioComponent
 audioComponent s n m = asked (openOf s) AudioComponent.Refused (λ c. audioComponentOf (knownTrace s c n) m)

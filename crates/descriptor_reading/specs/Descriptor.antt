@@ -29,14 +29,17 @@ use Rattle.descriptor_reading.specs.declared.answers.Upid.{Upid}
 abbrev pub isTag : Trace → ℕ → Bool
 isTag t v = eqb (look t "identifier") 0x43554549 && eqb (look t "splice_descriptor_tag") v
 
+-- of the whole program, or of so many components
 abbrev pub modeOf : Trace → Mode
 modeOf t = cond (isSet t "program_segmentation_flag") Mode.Program (Mode.Components (look t "component_count"))
 
+-- delivery is not restricted, or by these flags
 abbrev pub deliveryOf : Trace → Delivery
 deliveryOf t =
     cond (isSet t "delivery_not_restricted_flag") Delivery.NotRestricted
     (Delivery.Restricted (isSet t "web_delivery_allowed_flag") (isSet t "no_regional_blackout_flag") (isSet t "archive_allowed_flag") (look t "device_restrictions"))
 
+-- how long the segment lasts, where that is said
 abbrev pub durationOf : Trace → Duration
 durationOf t = cond (isSet t "segmentation_duration_flag") (Duration.Present (ticks (look t "segmentation_duration"))) Duration.Absent
 
@@ -85,6 +88,7 @@ standing s c = descriptorOf (standingTrace s c)
 abbrev pub dtmfChars : Trace → List ℕ
 dtmfChars t = cond (isTag t 1) (allOf t "DTMF_char") []
 
+-- character m of them
 unfoldable pub dtmfCharOf : Trace → ℕ → DtmfChar
 dtmfCharOf t m = cond (ltb m (length (dtmfChars t))) (DtmfChar.Char (getD (dtmfChars t) m 0)) (DtmfChar.Refused Refusal.NotHere)
 

@@ -27,9 +27,11 @@ componentsAt s at = cond (flagOf s (8 * (at + 4))) 0 (cond (flagOf s (8 * (at + 
 
 -- ---- the descriptor that stands from byte `at` on
 
+-- splice_descriptor_tag
 abbrev pub tagAt : List ℕ → ℕ → ℕ
 tagAt s at = fieldOf s (8 * at) 8
 
+-- what it says, by its tag
 unfoldable pub descriptorAt : List ℕ → ℕ → Descriptor
 descriptorAt s at =
     cond (eqb (tagAt s at) 0) (Descriptor.Avail (fieldOf s (8 * (at + 6)) 32))
@@ -40,10 +42,12 @@ descriptorAt s at =
     (cond (eqb (tagAt s at) 4) (Descriptor.Audio (fieldOf s (8 * (at + 6)) 4))
     (Descriptor.Refused Refusal.NotHere)))))
 
+-- character m, if it is a DTMF descriptor that has so many
 unfoldable pub dtmfCharAt : List ℕ → ℕ → ℕ → DtmfChar
 dtmfCharAt s at m =
     cond (eqb (tagAt s at) 1 && ltb m (fieldOf s (8 * (at + 7)) 3)) (DtmfChar.Char (fieldOf s (8 * (at + 8 + m)) 8)) (DtmfChar.Refused Refusal.NotHere)
 
+-- component m, if it is a segmentation descriptor that has so many
 unfoldable pub segmentationComponentAt : List ℕ → ℕ → ℕ → SegmentationComponent
 segmentationComponentAt s at m =
     let place = at + 13 + 6 * m in
@@ -51,6 +55,7 @@ segmentationComponentAt s at m =
     (SegmentationComponent.Component (fieldOf s (8 * place) 8) (ticks (fieldOf s (8 * place + 15) 33)))
     (SegmentationComponent.Refused Refusal.NotHere)
 
+-- component m, if it is an audio descriptor that has so many
 unfoldable pub audioComponentAt : List ℕ → ℕ → ℕ → AudioComponent
 audioComponentAt s at m =
     let place = at + 7 + 5 * m in
@@ -58,6 +63,7 @@ audioComponentAt s at m =
     (AudioComponent.Component (fieldOf s (8 * place) 8) (fieldOf s (8 * place + 8) 24) (fieldOf s (8 * place + 32) 3) (fieldOf s (8 * place + 35) 4) (flagOf s (8 * place + 39)))
     (AudioComponent.Refused Refusal.NotHere)
 
+-- where its UPID bytes lie and how many they are, if it is a segmentation descriptor that is not cancelled
 unfoldable pub upidAt : List ℕ → ℕ → Upid
 upidAt s at =
     let upid = upidPlace s (at + 6) in

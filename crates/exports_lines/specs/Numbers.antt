@@ -14,6 +14,7 @@ use Rattle.lines.specs.declared.answers.Turn.{Turn}
 abbrev pub heldOf : ℕ → Held
 heldOf n = cond (leb n 5464) (Held.Characters n) Held.TooLong
 
+-- the same back
 abbrev pub heldNumber : Held → ℕ
 heldNumber (Held.Characters n) = n
 heldNumber Held.TooLong = 5465

@@ -21,6 +21,7 @@ valueOf (x ∷ env) n = cond (eqt (x .0) n) (x .1) (valueOf env n)
 
 -- ---- a row
 
+-- how many bits a row has
 abbrev pub widthOf : Item → ℕ
 widthOf (field w n) = w
 widthOf (reserved w) = w
@@ -40,16 +41,19 @@ abbrev pub bindOne : Item → ℕ → Env → Env
 bindOne (field w n) v env = (n, v) ∷ env
 bindOne (reserved w) v env = env
 
+-- the names of these rows, the first of which stands at place k
 abbrev pub bind : List Item → (ℕ → ℕ) → ℕ → Env → Env
 bind [] f k env = env
 bind (i ∷ rows) f k env = bind rows f (k + widthOf i) (bindOne i (num f k (widthOf i)) env)
 
 -- ---- a test
 
+-- the value is one of these
 abbrev pub isAmong : ℕ → List ℕ → Bool
 isAmong v [] = false
 isAmong v (x ∷ xs) = eqb v x || isAmong v xs
 
+-- whether a test holds at place k of a part that ends at `end`
 abbrev pub holds : Test → Env → ℕ → ℕ → Bool
 holds (is n v) env end k = eqb (valueOf env n) v
 holds (among n vs) env end k = isAmong (valueOf env n) vs
@@ -57,6 +61,7 @@ holds more env end k = ltb k end
 
 -- ---- reading
 
+-- what reading by a table comes to
 pub data Reading : Type 0 where
   -- a rule is broken: its number, or 0 where none was given yet
   broken : ℕ → Reading
@@ -112,10 +117,12 @@ read (under n a p) env f end k = then (numbered n (read a env f end k)) (λ j. r
 
 -- ---- where it ends
 
+-- a rule broken, or the place after what was read
 pub data Outcome : Type 0 where
   breach : ℕ → Outcome
   ends : ℕ → Outcome
 
+-- what a reading comes to, without what was read
 unfoldable pub endOf : Reading → Outcome
 endOf (broken n) = breach n
 endOf (reached k t) = ends k

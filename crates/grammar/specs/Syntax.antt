@@ -15,6 +15,7 @@ pub data Test : Type 0 where
   among : String → List ℕ → Test
   more : Test
 
+-- a table: what stands one after another
 pub data Prog : Type 0 where
   -- nothing more
   done : Prog

@@ -33,6 +33,7 @@ break-duration = fields (field 1 "auto_return" ∷ reserved 6 ∷ field 33 "dura
 unfoldable pub avail-numbers : Prog
 avail-numbers = fields (field 16 "unique_program_id" ∷ field 8 "avail_num" ∷ field 8 "avails_expected" ∷ []) done
 
+-- the same, after break_duration() where there is one
 unfoldable pub avails : Prog
 avails = branch (is "duration_flag" 1) break-duration done avail-numbers
 

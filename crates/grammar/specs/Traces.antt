@@ -64,6 +64,7 @@ abbrev pub blankValue : Item → ℕ → ℕ
 blankValue (field w n) v = v
 blankValue (reserved w) v = 0
 
+-- rows with every reserved one set to 0
 unfoldable pub blank : Trace → Trace
 blank [] = []
 blank (x ∷ t) = (x .0, blankValue (x .0) (x .1)) ∷ blank t

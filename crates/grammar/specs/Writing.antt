@@ -9,6 +9,7 @@ use Rattle.grammar.specs.Syntax.{Item, Prog, done, stop, fields, branch,
 use Rattle.grammar.specs.Meaning.{Env, valueOf, widthOf, width, bindOne, holds}
 use Rattle.grammar.specs.Traces.{Trace}
 
+-- what writing by a table comes to
 pub data Writing : Type 0 where
   -- the numbers are not those of a reading
   refused : Writing

@@ -12,6 +12,7 @@ use Rattle.descriptors.specs.declared.Step.{Step}
 use Rattle.descriptors.specs.Walk.{kindOf, stepOf}
 use Rattle.descriptors.specs.Loop.{walked, traceAt}
 
+-- the five kinds that the standard defines
 abbrev pub isKnown : Kind → Bool
 isKnown Kind.Avail = true
 isKnown Kind.Dtmf = true

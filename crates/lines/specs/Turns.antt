@@ -81,16 +81,20 @@ abbrev pub moved : ℕ → Turned → Turn
 moved zero t = Turn.Moved (t .held) (t .taken) (length (t .said))
 moved (suc row) t = Turn.Refused Room
 
+-- new memory, or the lent one where a row refuses
 abbrev pub unless : ℕ → List ℕ → List ℕ → List ℕ
 unless zero lent new = new
 unless (suc row) lent new = lent
 
+-- what a turn answers
 unfoldable pub turnAnswer : Held → List ℕ → List ℕ → List ℕ → Turn
 turnAnswer held input carry out = moved (turnRow carry) (turned held carry [] (length out) input)
 
+-- what the carry buffer then holds
 unfoldable pub turnCarry : Held → List ℕ → List ℕ → List ℕ → List ℕ
 turnCarry held input carry out = unless (turnRow carry) carry (turned held carry [] (length out) input .carry)
 
+-- what the output then holds
 unfoldable pub turnOut : Held → List ℕ → List ℕ → List ℕ → List ℕ
 turnOut held input carry out = memory (turnRow carry) (turned held carry [] (length out) input .said) out
 
@@ -107,11 +111,14 @@ lastSaid (Held.Characters zero) carry = []
 lastSaid (Held.Characters (suc n)) carry = spelled (ended (Held.Characters (suc n)) carry [])
 lastSaid Held.TooLong carry = spelled (Line.Refused TextLen)
 
+-- ROOM, where the carry buffer is too short for any line or the output for this answer
 unfoldable pub lastRow : Held → List ℕ → List ℕ → ℕ
 lastRow held carry out = cond (ltb (length carry) 5464 || ltb (length out) (length (lastSaid held carry))) 11 0
 
+-- what the end of the stream answers
 unfoldable pub lastAnswer : Held → List ℕ → List ℕ → Written
 lastAnswer held carry out = answer (lastRow held carry out) (length (lastSaid held carry))
 
+-- what the output then holds
 unfoldable pub lastOut : Held → List ℕ → List ℕ → List ℕ
 lastOut held carry out = memory (lastRow held carry out) (lastSaid held carry) out

@@ -16,9 +16,11 @@ use Rattle.descriptor_reading.specs.Descriptor as Says
 
 -- ---- the known descriptors, by number from 0; unknown ones are not counted
 
+-- how many there are
 unfoldable pub knownCount : List ℕ → KnownCount
 knownCount s = asked (openOf s) KnownCount.Refused (λ c. KnownCount.Count (length (knownCursors s c)))
 
+-- what number n says
 unfoldable pub knownDescriptor : List ℕ → ℕ → Descriptor
 knownDescriptor s n = asked (openOf s) Descriptor.Refused (λ c. descriptorOf (knownTrace s c n))
 
@@ -33,5 +35,6 @@ unfoldable pub partOf : List ℕ → Upid → List ℕ
 partOf s (Upid.Part at n) = take n (drop at s)
 partOf s (Upid.Refused r) = []
 
+-- the UPID bytes themselves
 unfoldable pub upidBytes : List ℕ → ℕ → List ℕ
 upidBytes s n = partOf s (upid s n)
