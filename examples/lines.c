@@ -17,8 +17,10 @@ static uint8_t input[1 << 16];
 static uint8_t output[1 << 16];
 static uint8_t carry[TIMPANIMIST_LONGEST_TEXT];
 
-static int failed(const char *what) {
-    fprintf(stderr, "lines: %s: %s\n", what, strerror(errno));
+/* Says what failed, and why, under the name that the program was called by. */
+static int failed(const char *program, const char *what) {
+    const char *slash = strrchr(program, '/');
+    fprintf(stderr, "%s: %s: %s\n", slash ? slash + 1 : program, what, strerror(errno));
     return 3;
 }
 
@@ -47,15 +49,16 @@ static bool answer(uint64_t *held, size_t count) {
     return true;
 }
 
-int main(void) {
+int main(int count_of_words, char **words) {
+    const char *program = count_of_words > 0 ? words[0] : "lines";
     uint64_t held = 0;
     ssize_t count;
     while ((count = read(STDIN_FILENO, input, sizeof input)) != 0) {
         if (count < 0 && errno == EINTR) continue;
-        if (count < 0) return failed("standard input");
-        if (!answer(&held, (size_t)count)) return failed("standard output");
+        if (count < 0) return failed(program, "standard input");
+        if (!answer(&held, (size_t)count)) return failed(program, "standard output");
     }
     if (!put((size_t)timpanimist_last_line(held, carry, sizeof carry, output, sizeof output)))
-        return failed("standard output");
+        return failed(program, "standard output");
     return 0;
 }
