@@ -44,6 +44,16 @@ static void print_dvb(const struct cue *cue) {
         printf("DVB-DASH check: %s\n", out[0] == 1 ? "yes" : "no");
 }
 
+static void print_dash_duration(const struct cue *cue) {
+    uint64_t out[TIMPANIMIST_MOST_DASH_DURATION];
+    uint64_t answer = timpanimist_dash_duration(cue->section, cue->count, out, TIMPANIMIST_MOST_DASH_DURATION);
+    if (!answered("DASH duration: ", answer)) return;
+    if (out[0] == TIMPANIMIST_DASH_DURATION_MEASURED)
+        print_ticks("DASH duration:", out[1]);
+    else
+        printf("DASH duration: none\n");
+}
+
 static void print_bill_label(const struct cue *cue, const char *house) {
     uint64_t out[TIMPANIMIST_MOST_BILL_LABEL];
     uint64_t answer = timpanimist_bill_label(cue->section, cue->count, (const uint8_t *)house, strlen(house), out,
@@ -76,6 +86,7 @@ int main(int count, char **words) {
     print_effective_time(&cue);
     print_break(&cue);
     print_dvb(&cue);
+    print_dash_duration(&cue);
     print_bill_label(&cue, count == 3 ? words[2] : "HOUSE");
     return 0;
 }

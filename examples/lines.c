@@ -2,8 +2,8 @@
  *
  * Each line of standard input gets one line on standard output: `A m` for a break of m milliseconds, `B` for a break without
  * measure, `N` for none, `X` for unread, `R n` for a refusal. The memory it takes stays the same for an input of any size, and
- * the lines of a piece are answered before the next piece is read. The exit status is 0, or 3 where reading or writing
- * fails; standard error stays empty otherwise. */
+ * the lines of a piece are answered before the next piece is read. The exit status is 0, or 2 with any argument, where it
+ * only says how it is used, or 3 where reading or writing fails; standard error stays empty otherwise. */
 #define _POSIX_C_SOURCE 200809L
 #include <errno.h>
 #include <stdio.h>
@@ -17,10 +17,18 @@ static uint8_t input[1 << 16];
 static uint8_t output[1 << 16];
 static uint8_t carry[TIMPANIMIST_LONGEST_TEXT];
 
-/* Says what failed, and why, under the name that the program was called by. */
-static int failed(const char *program, const char *what) {
-    const char *slash = strrchr(program, '/');
-    fprintf(stderr, "%s: %s: %s\n", slash ? slash + 1 : program, what, strerror(errno));
+/* The name that the program was called by. */
+static const char *program = "lines";
+
+/* It takes no arguments. One that is given may name a file, whose lines would otherwise be waited for in vain. */
+static int usage(void) {
+    fprintf(stderr, "usage: %s <TEXTS >ANSWERS\n", program);
+    return 2;
+}
+
+/* Says what failed, and why. */
+static int failed(const char *what) {
+    fprintf(stderr, "%s: %s: %s\n", program, what, strerror(errno));
     return 3;
 }
 
@@ -50,15 +58,19 @@ static bool answer(uint64_t *held, size_t count) {
 }
 
 int main(int count_of_words, char **words) {
-    const char *program = count_of_words > 0 ? words[0] : "lines";
     uint64_t held = 0;
     ssize_t count;
+    if (count_of_words > 0) {
+        const char *slash = strrchr(words[0], '/');
+        program = slash ? slash + 1 : words[0];
+    }
+    if (count_of_words > 1) return usage();
     while ((count = read(STDIN_FILENO, input, sizeof input)) != 0) {
         if (count < 0 && errno == EINTR) continue;
-        if (count < 0) return failed(program, "standard input");
-        if (!answer(&held, (size_t)count)) return failed(program, "standard output");
+        if (count < 0) return failed("standard input");
+        if (!answer(&held, (size_t)count)) return failed("standard output");
     }
     if (!put((size_t)timpanimist_last_line(held, carry, sizeof carry, output, sizeof output)))
-        return failed(program, "standard output");
+        return failed("standard output");
     return 0;
 }

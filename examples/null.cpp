@@ -56,6 +56,7 @@ void house() {
     short_section("break", timpanimist_break(no_bytes, 0, out, 0));
     short_section("effective_time", timpanimist_effective_time(no_bytes, 0, out, 0));
     short_section("dvb", timpanimist_dvb(no_bytes, 0, out, 0));
+    short_section("dash_duration", timpanimist_dash_duration(no_bytes, 0, out, 0));
     refused("bill_label", timpanimist_bill_label(no_bytes, 0, no_bytes, 0, out, 0), TIMPANIMIST_REFUSAL_ROOM);
     check("bill_label", timpanimist_bill_label(no_bytes, 0, no_bytes, 0, label, TIMPANIMIST_MOST_BILL_LABEL), 3);
     check("bill_label's slice", label[0], TIMPANIMIST_BILL_LABEL_HOUSE);

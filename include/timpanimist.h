@@ -2,12 +2,17 @@
  *
  * Memory. A list passes as a pointer and then the count of its elements, bytes or numbers. Where the count is 0 the pointer
  * is not followed and may be null. What is asked about is only read. `out` is lent to be written: an answer goes to its
- * front and everything behind it stays; after a refusal all of it is as it was. Memory that is lent to be written must
- * overlap no other memory of the same call. No function allocates, keeps a pointer or has a state of its own, so any number
- * of threads may call them.
+ * front and everything behind it stays; after a refusal all of it is as it was. One thing is written that no answer tells: a
+ * turn over lines that stops for want of room may have written to `carry` behind the characters that are held, which matters
+ * to no later turn. Memory that is lent to be written must overlap no other memory of the same call. No function allocates,
+ * keeps a pointer or has a state of its own, so any number of threads may call them.
+ *
+ * Stack. Measured on x86-64 and on Arm, and not proved (docs/BENCHMARKS.md): timpanimist_sheet_to_section takes 72 KiB,
+ * timpanimist_section_to_sheet 35 KiB, the three functions on lines 5 KiB each, and every other function less than 1 KiB.
  *
  * Answers. Every input has an answer, and nothing but the above is asked of the caller. A function with an `out` returns
- * one number: how many elements it wrote, or 2^63 plus the number of a refusal. The way to tell the two apart is
+ * one number: how many elements it wrote, or 2^63 plus the number of a refusal. Even the bill label, which is never refused
+ * itself, is refused by ROOM where `out` is too short for its numbers. The way to tell the two apart is
  *
  *     uint64_t answer = timpanimist_break(section, n, out, TIMPANIMIST_MOST_BREAK);
  *     uint32_t refusal = timpanimist_refusal(answer);
@@ -111,6 +116,7 @@ static inline const char *timpanimist_refusal_words(uint32_t refusal) {
 #define TIMPANIMIST_MOST_BREAK 2
 #define TIMPANIMIST_MOST_EFFECTIVE_TIME 2
 #define TIMPANIMIST_MOST_DVB 1
+#define TIMPANIMIST_MOST_DASH_DURATION 2
 #define TIMPANIMIST_MOST_BILL_LABEL 3
 
 /* ---- Texts, sections and field sheets ---- */
@@ -244,7 +250,8 @@ enum {
     TIMPANIMIST_BREAK_UNREAD = 3           /* sealed, or the standard has no such splice_command_type */
 };
 
-/* Whether the section opens a break and how long it lasts, at most TIMPANIMIST_MOST_BREAK numbers.
+/* Whether the section opens a break and how long it lasts, at most TIMPANIMIST_MOST_BREAK numbers. A time signal's break
+   lasts as long as the longest duration among the descriptors that open one; no other descriptor measures it.
    Refused by SHORT to DESCRIPTOR, then by ROOM; a sealed section is unread. */
 uint64_t timpanimist_break(const uint8_t *section, size_t section_len, uint64_t *out, size_t room);
 
@@ -262,12 +269,23 @@ uint64_t timpanimist_effective_time(const uint8_t *section, size_t section_len, 
    Refused by SHORT to DESCRIPTOR, then by SEALED, then by ROOM. */
 uint64_t timpanimist_dvb(const uint8_t *section, size_t section_len, uint64_t *out, size_t room);
 
+/* The first number of a DASH duration. */
+enum {
+    TIMPANIMIST_DASH_DURATION_NONE = 0,
+    TIMPANIMIST_DASH_DURATION_MEASURED = 1 /* its ticks */
+};
+
+/* How long the DASH event of a time signal lasts: the longest duration among all its uncancelled segmentation descriptors,
+   whether or not it opens a break, at most TIMPANIMIST_MOST_DASH_DURATION numbers. It bills nothing: what a break is billed by
+   is timpanimist_break's. Refused by SHORT to DESCRIPTOR, then by SEALED, then by ROOM. */
+uint64_t timpanimist_dash_duration(const uint8_t *section, size_t section_len, uint64_t *out, size_t room);
+
 /* The first number of a bill label: the slice in which it lies. */
 enum { TIMPANIMIST_BILL_LABEL_SECTION = 0, TIMPANIMIST_BILL_LABEL_HOUSE = 1 };
 
 /* Which bytes the break is billed under, TIMPANIMIST_MOST_BILL_LABEL numbers: the slice, the place of the first byte in it,
    and how many they are. The house's name stands in where the section is refused or sealed or has no UPID.
-   Refused by ROOM alone. */
+   The label is never refused; ROOM alone refuses this call, where there is no room for its three numbers. */
 uint64_t timpanimist_bill_label(const uint8_t *section, size_t section_len, const uint8_t *house, size_t house_len,
                                 uint64_t *out, size_t room);
 

@@ -43,6 +43,7 @@ fn cue(text: &[u8], house: &[u8]) -> Result<(), Refusal> {
     told("effective time: ", print_effective_time(&section));
     told("break: ", print_break(&section));
     told("DVB-DASH check: ", print_dvb(&section));
+    told("DASH duration: ", print_dash_duration(&section));
     print_bill_label(&section, house);
     Ok(())
 }
@@ -75,6 +76,14 @@ fn print_break(section: &[u8]) -> Result<(), Refusal> {
 fn print_dvb(section: &[u8]) -> Result<(), Refusal> {
     let passes = dvb(section)?;
     println!("DVB-DASH check: {}", if passes { "yes" } else { "no" });
+    Ok(())
+}
+
+fn print_dash_duration(section: &[u8]) -> Result<(), Refusal> {
+    match dash_duration(section)? {
+        DashDuration::Measured(ticks) => println!("DASH duration: {}", measured(ticks)),
+        DashDuration::None => println!("DASH duration: none"),
+    }
     Ok(())
 }
 

@@ -36,6 +36,7 @@ extern "C" {
     fn timpanimist_break(section: *const u8, section_len: usize, out: *mut u64, room: usize) -> u64;
     fn timpanimist_effective_time(section: *const u8, section_len: usize, out: *mut u64, room: usize) -> u64;
     fn timpanimist_dvb(section: *const u8, section_len: usize, out: *mut u64, room: usize) -> u64;
+    fn timpanimist_dash_duration(section: *const u8, section_len: usize, out: *mut u64, room: usize) -> u64;
     fn timpanimist_bill_label(section: *const u8, section_len: usize, house: *const u8,
         house_len: usize, out: *mut u64, room: usize) -> u64;
     fn timpanimist_line(text: *const u8, text_len: usize, out: *mut u8, room: usize) -> u64;
@@ -89,6 +90,7 @@ questions! {
     break_answer is timpanimist_break(u8) -> u64;
     effective_time is timpanimist_effective_time(u8) -> u64;
     dvb is timpanimist_dvb(u8) -> u64;
+    dash_duration is timpanimist_dash_duration(u8) -> u64;
     line is timpanimist_line(u8) -> u8;
 }
 

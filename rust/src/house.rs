@@ -23,6 +23,13 @@ pub enum EffectiveTime {
     At(Ticks),
 }
 
+/// How long the DASH event of a time signal lasts.
+#[derive(Clone, Copy, Debug, PartialEq, Eq, Hash)]
+pub enum DashDuration {
+    None,
+    Measured(Ticks),
+}
+
 /// What a break is billed under.
 #[derive(Clone, Copy, Debug, PartialEq, Eq, Hash)]
 pub enum Label<'a> {
@@ -32,8 +39,9 @@ pub enum Label<'a> {
     House(&'a [u8]),
 }
 
-/// Whether the section opens a break, and how long it lasts. Refused as by [`accept`](crate::accept); a
-/// sealed section is unread.
+/// Whether the section opens a break, and how long it lasts. A time signal's break lasts as long as the
+/// longest duration among the descriptors that open one. Refused as by [`accept`](crate::accept); a sealed
+/// section is unread.
 ///
 /// ```
 /// use timpanimist::{break_answer, Break, Ticks};
@@ -68,6 +76,23 @@ pub fn effective_time(section: &[u8]) -> Result<EffectiveTime, Refusal> {
 /// [`Sealed`](Refusal::Sealed).
 pub fn dvb(section: &[u8]) -> Result<bool, Refusal> {
     asked::<MOST_DVB, _>(|out| ffi::dvb(section, out))
+}
+
+/// How long the DASH event of a time signal lasts: the longest duration among all its uncancelled
+/// segmentation descriptors, whether or not it opens a break. It bills nothing. Refused as by
+/// [`accept`](crate::accept), then by [`Sealed`](Refusal::Sealed).
+///
+/// ```
+/// use timpanimist::{dash_duration, DashDuration, Ticks};
+/// # fn main() -> Result<(), timpanimist::Refusal> {
+/// # let text = b"/DA0AAAAAAAAAAAABQb+ADAQ6QAeAhxDVUVJQAAAO3/PAAEUrEoICAAAAAAg+2UBNAAANvrtoQ==";
+/// let section = timpanimist::text_to_section(text)?;
+/// assert_eq!(dash_duration(&section)?, DashDuration::Measured(Ticks(18_132_042)));
+/// # Ok(())
+/// # }
+/// ```
+pub fn dash_duration(section: &[u8]) -> Result<DashDuration, Refusal> {
+    asked::<MOST_DASH_DURATION, _>(|out| ffi::dash_duration(section, out))
 }
 
 /// What the break is billed under: the section's first UPID, or the house's name where the section is
@@ -120,6 +145,16 @@ impl Read for EffectiveTime {
             0 => EffectiveTime::None,
             1 => EffectiveTime::At(numbers.read()),
             case => no_case("effective time", case),
+        }
+    }
+}
+
+impl Read for DashDuration {
+    fn read(numbers: &mut Numbers) -> DashDuration {
+        match numbers.case() {
+            0 => DashDuration::None,
+            1 => DashDuration::Measured(numbers.read()),
+            case => no_case("DASH duration", case),
         }
     }
 }

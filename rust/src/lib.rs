@@ -50,7 +50,8 @@ pub use descriptor::{
     Delivery, Descriptor, Duration, Segmentation, SegmentationComponent, SubSegments,
 };
 pub use house::{
-    bill_label, break_answer, dvb, effective_time, label, Break, EffectiveTime, Label,
+    bill_label, break_answer, dash_duration, dvb, effective_time, label, Break, DashDuration,
+    EffectiveTime, Label,
 };
 pub use limits::{LONGEST_LINE, LONGEST_SECTION, LONGEST_TEXT, MOST_SHEET, MOST_TEXT_BYTES};
 pub use line::{line, Line, NotALine};

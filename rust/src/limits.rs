@@ -29,6 +29,7 @@ pub(crate) const MOST_UPID: usize = 2;
 pub(crate) const MOST_BREAK: usize = 2;
 pub(crate) const MOST_EFFECTIVE_TIME: usize = 2;
 pub(crate) const MOST_DVB: usize = 1;
+pub(crate) const MOST_DASH_DURATION: usize = 2;
 pub(crate) const MOST_BILL_LABEL: usize = 3;
 
 #[cfg(test)]
@@ -101,6 +102,7 @@ mod tests {
             ffi::effective_time(&section, out)
         });
         most(MOST_DVB, |out| ffi::dvb(&section, out));
+        most(MOST_DASH_DURATION, |out| ffi::dash_duration(&section, out));
         most(MOST_BILL_LABEL, |out| {
             ffi::bill_label(&section, b"House", out)
         });

@@ -1,7 +1,12 @@
 //! The pages under docs/ name what is there: every crate, every wrong reader, every file.
 
+mod promises;
+
+use std::collections::BTreeSet;
 use std::fs;
 use std::path::{Path, PathBuf};
+
+use promises::{functions, reached, wrong_readers, WrongReader};
 
 fn at(path: &str) -> PathBuf {
     Path::new(env!("CARGO_MANIFEST_DIR")).join("..").join(path)
@@ -36,27 +41,6 @@ fn quoted(page: &str) -> Vec<&str> {
     page.split('`').skip(1).step_by(2).collect()
 }
 
-/// The names of a crate's wrong readers, edits that the prover refuses.
-fn wrong_readers(name: &str) -> Vec<String> {
-    files(&format!("crates/{name}/must-fail"), ".edit")
-}
-
-/// How many functions a library crate lets others call, those that it passes on left out.
-fn public_functions(name: &str) -> usize {
-    let folder = format!("crates/{name}/src");
-    let modules = files(&folder, ".rt");
-    if modules.iter().any(|module| module == "main") {
-        return 0;
-    }
-    let is_public = |line: &&str| line.starts_with("pub fn ") || line.starts_with("pub extern ");
-    let count = |module: &String| {
-        let source = text(&format!("{folder}/{module}.rt"));
-        let lines = source.lines().map(str::trim_start);
-        lines.filter(is_public).count()
-    };
-    modules.iter().map(count).sum()
-}
-
 #[test]
 fn each_crate_has_its_row() {
     let page = text("docs/ARCHITECTURE.md");
@@ -71,20 +55,32 @@ fn each_wrong_reader_is_named() {
     let page = text("docs/PROMISES.md");
     let named = quoted(&page);
     for name in crates() {
+        let mut seen = BTreeSet::new();
         for reader in wrong_readers(&name) {
+            let reader = reader.name;
             assert!(named.contains(&&reader[..]), "{name}/{reader}");
+            assert!(seen.insert(reader.clone()), "{name}/{reader} stands twice");
         }
     }
 }
 
+/// They change the function itself, or a private one that it calls.
 #[test]
 fn there_are_two_wrong_readers_for_each_public_function() {
     for name in crates() {
-        let (functions, readers) = (public_functions(&name), wrong_readers(&name).len());
+        let (functions, readers) = (functions(&name), wrong_readers(&name));
+        let public = functions.iter().filter(|function| function.is_public);
+        let (count, found) = (public.clone().count(), readers.len());
         assert!(
-            readers >= 2 * functions,
-            "{name}: {functions} functions, {readers} wrong readers"
+            found >= 2 * count,
+            "{name}: {count} functions, {found} wrong readers"
         );
+        for function in public {
+            let paths = reached(function, &functions);
+            let is_own = |reader: &&WrongReader| !reader.of.is_disjoint(&paths);
+            let own = readers.iter().filter(is_own).count();
+            assert!(own >= 2, "{name}/{}: {own} wrong readers", function.path);
+        }
     }
 }
 

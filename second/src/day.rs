@@ -34,6 +34,7 @@ pub fn lines() -> Vec<Line> {
     lines.extend(no_breaks());
     lines.extend(unread());
     lines.extend(refused::lines());
+    lines.extend(beside_a_program());
     lines
 }
 
@@ -96,12 +97,17 @@ fn time_signal(descriptors: &str) -> Vec<u8> {
     )
 }
 
-/// A segmentation descriptor of the type 0x34, without a duration or with one of so many ticks.
-fn placement_opportunity(duration: Option<u64>) -> String {
+/// A segmentation descriptor of this event and type, without a duration or with one of so many ticks.
+fn segmentation(event: u32, type_id: u8, duration: Option<u64>) -> String {
+    let behind = format!("00 00 {type_id:02x} 01 01");
     match duration {
-        None => "02 0F 43554549 0000000B 7F BF 00 00 34 01 01".to_string(),
-        Some(ticks) => format!("02 14 43554549 0000000B 7F FF {ticks:010x} 00 00 34 01 01"),
+        None => format!("02 0F 43554549 {event:08x} 7F BF {behind}"),
+        Some(ticks) => format!("02 14 43554549 {event:08x} 7F FF {ticks:010x} {behind}"),
     }
+}
+
+fn placement_opportunity(duration: Option<u64>) -> String {
+    segmentation(0x0B, 0x34, duration)
 }
 
 /// Of the forty bits of this duration, the low 32 alone would be 1,080,000 ticks, or 12 seconds.
@@ -194,6 +200,33 @@ fn unread() -> Vec<Line> {
             &section(3, "08 010203 0000"),
             "X",
             "a command of the type 8, which 002 reserves",
+        ),
+    ]
+}
+
+/// Two hours and a minute, in ticks.
+const PROGRAM_TICKS: u64 = 2 * 3_600 * 90_000;
+const MINUTE_TICKS: u64 = 60 * 90_000;
+
+/// These came after the others; they stand at the end, so that every line keeps its number.
+fn beside_a_program() -> Vec<Line> {
+    let program = segmentation(0x0C, 0x10, Some(PROGRAM_TICKS));
+    let beside = |duration| {
+        let opportunity = segmentation(0x0D, 0x34, duration);
+        time_signal(&format!("{program} {opportunity}"))
+    };
+    vec![
+        of_bytes(
+            &beside(Some(MINUTE_TICKS)),
+            "A 60000",
+            "a program of two hours starts beside a placement opportunity of 60 seconds, which alone \
+             is the break",
+        ),
+        of_bytes(
+            &beside(None),
+            "B",
+            "the same cue with the opportunity's duration taken out: the program's does not measure \
+             the break",
         ),
     ]
 }

@@ -27,10 +27,11 @@ usage: second accept HEX                       whether a section is accepted, an
        second audio-component HEX N M          audio component M of known descriptor N
        second upid HEX N                       where the UPID of known descriptor N lies, and its bytes
        second break HEX                        the break that a section opens
+       second dash-duration HEX                how long its DASH event lasts
        second effective-time HEX               when it splices, with pts_adjustment added
        second dvb HEX                          whether DVB-DASH allows its command
        second label HEX HOUSE-HEX              its bill label, under this house name
-       second numbers QUESTION HEX ..          the answer to one of these fifteen as a flat list
+       second numbers QUESTION HEX ..          the answer to one of these sixteen as a flat list
        second tally                            the breaks of texts on standard input, one a line
        second line TEXT                        the line that tally writes for this text
        second line-hex HEX                     the same, the text given as hex bytes
@@ -166,6 +167,7 @@ fn typed(words: &[&[u8]]) -> Result<Typed, Failure> {
         }
         [b"upid", section, n] => both(reading::upid(&bytes(section)?, number(n)?)),
         [b"break", section] => both(house::break_answer(&bytes(section)?)),
+        [b"dash-duration", section] => both(house::dash_duration(&bytes(section)?)),
         [b"effective-time", section] => both(house::effective_time(&bytes(section)?)),
         [b"dvb", section] => both(house::dvb(&bytes(section)?)),
         [b"label", section, house_name] => label(&bytes(section)?, &bytes(house_name)?),

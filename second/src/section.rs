@@ -58,7 +58,7 @@ impl Section {
         self.header.list(&mut items);
         match &self.inside {
             Inside::Clear(clear) => clear.list(&mut items),
-            Inside::Sealed(sealed) => items.bytes("encrypted", sealed),
+            Inside::Sealed(sealed) => items.bytes("sealed_byte", sealed),
         }
         items.number("CRC_32", 32, self.crc_32);
         items.list

@@ -191,6 +191,10 @@ fn house_answers_of_004() {
         "break: 1 (measured)\nticks: 18132042 (0x114ac4a)",
     );
     answers(
+        &["dash-duration", section],
+        "DASH duration: 1 (given)\nticks: 18132042 (0x114ac4a)",
+    );
+    answers(
         &["effective-time", section],
         "effective time: 1 (given)\nticks: 3150057 (0x3010e9)",
     );
@@ -200,6 +204,7 @@ fn house_answers_of_004() {
         "label: 0 (UPID)\noffset: 40 (0x28)\nlength: 8\nbytes: 0000000020fb6501",
     );
     numbers(&["break", section], "1 18132042");
+    numbers(&["dash-duration", section], "1 18132042");
     numbers(&["effective-time", section], "1 3150057");
     numbers(&["dvb", section], "1");
     numbers(&["label", section, "486f757365"], "0 40 8");
@@ -209,6 +214,8 @@ fn house_answers_of_004() {
 fn house_answers_of_other_sections() {
     let null = &section_of("252 0 0 0 0 0 0 0 0 0 0 0 0");
     answers(&["break", null], "break: 0 (none)");
+    answers(&["dash-duration", null], "DASH duration: 0 (none)");
+    numbers(&["dash-duration", null], "0");
     answers(&["effective-time", null], "effective time: 0 (none)");
     answers(&["dvb", null], "DVB: 0 (no)");
     answers(
@@ -221,16 +228,20 @@ fn house_answers_of_other_sections() {
     );
     let without = &section_of("252 0 0 0 0 0 0 0 0 0 10 5 9 0 0 1 1 0 1 15 2 3 4 0");
     answers(&["break", without], "break: 2 (without measure)");
+    numbers(&["dash-duration", without], "0");
     let unknown = &section_of("252 0 0 0 0 0 0 0 0 0 0 1 0");
     answers(&["break", unknown], "break: 3 (unread)");
     // Sealed, and refused.
     let sealed = &section_of("252 0 0 0 0 1 0 0 0 0 0 0 0 0 0 0 0 0");
     answers(&["break", sealed], "break: 3 (unread)");
+    refuses(&["dash-duration", sealed], "R 17 SEALED");
+    refuses(&["numbers", "dash-duration", sealed], "R 17 SEALED");
     refuses(&["effective-time", sealed], "R 17 SEALED");
     refuses(&["dvb", sealed], "R 17 SEALED");
     numbers(&["label", sealed, "00"], "1");
     let cut = &SECTION_OF_004[..108];
     refuses(&["break", cut], "R 4 SIZE");
+    refuses(&["dash-duration", cut], "R 4 SIZE");
     refuses(&["effective-time", cut], "R 4 SIZE");
     refuses(&["dvb", cut], "R 4 SIZE");
     numbers(&["label", cut, "00"], "1");
@@ -264,7 +275,7 @@ fn refusals_carry_number_and_name() {
 
 #[test]
 fn bad_usage_is_told_on_standard_error() {
-    let cases: [&[&str]; 26] = [
+    let cases: [&[&str]; 28] = [
         &[],
         &["sing"],
         &["accept"],
@@ -279,6 +290,8 @@ fn bad_usage_is_told_on_standard_error() {
         &["event-component", "fc", "0"],
         &["upid", "fc", "x"],
         &["break"],
+        &["dash-duration"],
+        &["dash-duration", "fc", "0"],
         &["dvb", "fc", "0"],
         &["label", "fc"],
         &["label", "fc", "x"],

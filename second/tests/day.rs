@@ -1,7 +1,9 @@
 //! The sample day: its files are what the program makes and answers, and every kind of answer is there.
 
 use second::day;
+use second::house::{dash_duration, DashDuration};
 use second::lines::answers;
+use second::reading::{descriptor, Descriptor};
 use second::samples::PUBLISHED;
 use second::section::{accept, Inside};
 use second::text::text_to_section;
@@ -20,7 +22,7 @@ fn section(line: usize) -> Vec<u8> {
 #[test]
 fn the_texts_are_those_that_the_program_makes() {
     assert_eq!(DAY, day::file());
-    assert_eq!(DAY.lines().count(), 31);
+    assert_eq!(DAY.lines().count(), 33);
 }
 
 #[test]
@@ -72,6 +74,30 @@ fn the_cashiers_cue() {
     assert!(!fields.contains("splice_descriptor()"));
     let answers: Vec<&str> = ANSWERS.lines().collect();
     assert_eq!(answers[5..7], ["A 47733858", "A 47733858"]);
+}
+
+/// A program of 7,200 seconds starts, and beside it a placement opportunity of 60, or of no told
+/// length: the breaks differ, the DASH events do not.
+#[test]
+fn the_cues_beside_a_program() {
+    let ticks = 7_200 * 90_000;
+    for line in [32, 33] {
+        let section = section(line);
+        let lasts = DashDuration::Lasts { ticks };
+        assert_eq!(dash_duration(&section), Ok(lasts));
+        let segmentation = |n| match descriptor(&section, n) {
+            Ok(Descriptor::Segmentation(segmentation)) => segmentation,
+            other => panic!("no segmentation descriptor: {other:?}"),
+        };
+        let (program, opportunity) = (segmentation(0), segmentation(1));
+        assert_eq!(program.segmentation_type_id, 0x10);
+        assert_eq!(program.segmentation_duration, Some(ticks));
+        assert_eq!(opportunity.segmentation_type_id, 0x34);
+        let minute = (line == 32).then_some(60 * 90_000);
+        assert_eq!(opportunity.segmentation_duration, minute);
+    }
+    let answers: Vec<&str> = ANSWERS.lines().collect();
+    assert_eq!(answers[31..33], ["A 60000", "B"]);
 }
 
 #[test]

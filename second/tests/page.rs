@@ -1,22 +1,13 @@
-//! docs/SHEET.md says what the second program does: its fields and widths, and 004's cue.
+//! docs/SHEET.md works 004's cue through as the second program does. `tests/tables` has its tables.
 
-#[allow(dead_code, unused_imports)]
-#[path = "support/built/mod.rs"]
-mod built;
 #[allow(dead_code)]
 #[path = "support/fields.rs"]
 mod fields;
-#[allow(dead_code)]
-#[path = "support/random.rs"]
-mod random;
 
-use built::{any_section, Size};
 use fields::fields;
-use random::{seed, Random};
 use second::samples::TEXT_OF_004;
 use second::sheet::sheet_of;
 use second::text::text_to_section;
-use std::collections::BTreeSet;
 
 const PAGE: &str = include_str!("../../docs/SHEET.md");
 
@@ -29,26 +20,6 @@ fn rows(cells: usize) -> Vec<Vec<String>> {
     });
     rows.filter(|row: &Vec<String>| row.len() == cells)
         .collect()
-}
-
-#[test]
-fn the_fields_are_those_of_the_tables() {
-    println!("seed {:#018x}", seed());
-    let random = &mut Random::new(seed());
-    let mut met = BTreeSet::new();
-    for _ in 0..5_000 {
-        let built = any_section(random, Size::Short);
-        let fields = fields(&built.bytes);
-        met.extend(fields.iter().map(|(name, bits)| (name.to_string(), *bits)));
-    }
-    let told: BTreeSet<(String, usize)> = rows(3)
-        .iter()
-        .filter_map(|row| {
-            let name = row[0].split(',').next()?.to_string();
-            Some((name, row[1].parse().ok()?))
-        })
-        .collect();
-    assert_eq!(met, told);
 }
 
 #[test]

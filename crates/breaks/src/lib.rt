@@ -1,4 +1,6 @@
-// The break of a section: whether it opens one, and how long that lasts.
+// The break of a section: whether it opens one, and how long that lasts. And the duration of its DASH event.
+mod dash;
+
 ghost use mathlib.Core.Path.{_≡_};
 ghost use Rattle.command_reading.specs.Command as command_says;
 ghost use Rattle.signals.specs.Signals.{knownReadings};
@@ -6,6 +8,8 @@ ghost use Rattle.breaks.specs.Breaks.{insertBreak, refusedBreak, breakBy
 use command_reading::BreakDuration;
 use command_reading::Command;
 use command_reading::Insert;
+pub use dash::DashDuration;
+pub use dash::dash_duration;
 use descriptors::Cursor;
 use opening::Opened;
 use signals::Break;

@@ -1,25 +1,23 @@
 -- Demand 3: two accepted sections that are not sealed, whose sheets are equal once reserved fields are set to 0, and
--- descriptor_loop_length, unknown descriptors and stuffing are taken out, give the same answers. And the break is unread where the
--- section is sealed, or where its command is of a type that the standard does not have.
+-- descriptor_loop_length, unknown descriptors and stuffing are taken out, give the same answers.
 -- Assumes nothing.
 use mathlib.Core.Path.{_≡_, sym, ap, _∙_}
-use mathlib.Core.Bool.{true, false, cond}
+use mathlib.Core.Bool.{false, cond}
 use mathlib.Core.List.{List, [], _∷_}
-use mathlib.Core.Logic.{⊎-elim}
 use Prim.Native.Nat.{ℕ}
 use lib.ListN.{length}
 use lib.Dec.{eqb}
 use Rattle.bits.proofs.Bytes.{AreBytes}
-use Rattle.bits.proofs.Cases.{by-cases, neither}
 use Rattle.units.specs.declared.refusals.Refusal.{Refusal}
 use Rattle.grammar.specs.Meaning.{isAmong, Reading}
 use Rattle.grammar.specs.Traces.{Trace, blank}
 use Rattle.grammar.specs.Names.{look}
+use Rattle.grammar.specs.Left.{left}
 use Rattle.descriptors.specs.declared.Cursor.{Cursor}
 use Rattle.section.specs.declared.Verdict.the-variants.{Accepted}
 use Rattle.section.specs.Accept.{the, acceptOf}
 use Rattle.opening.specs.First.{firstCursor, openOf, asked}
-use Rattle.opening.proofs.Asked.{sealed-open, open-first, when-open, when-refused}
+use Rattle.opening.proofs.Asked.{open-first, when-open}
 use Rattle.sheet.specs.Sheet.{sectionTrace, sheetOf}
 use Rattle.sheet.proofs.RoundTrip.{section-sheet-section}
 use Rattle.command_reading.specs.declared.answers.Command.{Command}
@@ -42,17 +40,19 @@ use Rattle.descriptor_reading.specs.Descriptor.{descriptorOf, dtmfCharOf, segme
 use Rattle.descriptor_reading.specs.Descriptor as Descriptors
 use Rattle.known_walk.proofs.EachStands.{each-stands}
 use Rattle.reading.specs.Reading as Asks
-use Rattle.signals.specs.declared.Break.{Break}
 use Rattle.signals.specs.Signals.{knownReadings}
 use Rattle.breaks.specs.Breaks.{breakBy, refusedBreak}
 use Rattle.breaks.specs.Breaks as Breaks
+use Rattle.breaks.specs.declared.dash.DashDuration.{DashDuration}
+use Rattle.breaks.specs.Dash.{dashBy}
+use Rattle.breaks.specs.Dash as Dash
 use Rattle.times.specs.declared.answers.EffectiveTime.{EffectiveTime}
 use Rattle.times.specs.declared.answers.Dvb.{Dvb}
 use Rattle.times.specs.Times.{effectiveBy}
 use Rattle.times.specs.Times as Times
 use Rattle.labels.specs.declared.answers.Label.{Label}
 use Rattle.labels.specs.Labels.{labelAt, labelOf, billLabel, labelBytes}
-use Rattle.demands.specs.Same.{left, rowsOf, Same}
+use Rattle.demands.specs.Same.{rowsOf, Same}
 use Rattle.demands.specs.OneCue.{unplaced, OneCue}
 use Rattle.grammar.proofs.Blank.{look-blank}
 use Rattle.demands.proofs.Blank.{command-blank, insert-component-blank, event-blank, event-component-blank, private-byte-blank, descriptor-blank, dtmf-blank, segmentation-component-blank, audio-component-blank}
@@ -74,7 +74,7 @@ sheet-left s hs e = ap (λ (x : List ℕ). left (sectionTrace x)) (section-sheet
 
 module _ (s : List ℕ) (e : acceptOf s ≡ Accepted) (h : eqb (the s "encrypted_packet") 1 ≡ false) where
   -- its command is read
-  command-is : Commands.command s ≡ commandOf (commandTrace s)
+  pub command-is : Commands.command s ≡ commandOf (commandTrace s)
   unfolding Commands.command whereRead
   command-is = ap (λ (r : Reading). whereRead r (commandOf (commandTrace s))) (command-read s e (is-left s e h))
 
@@ -125,7 +125,7 @@ module _ (s s′ : List ℕ) (hs : AreBytes s) (hs′ : AreBytes s′) (e : acce
       ∙ sym (unplaced-said (numbered (cursors s′) n .at) (knownTrace s′ (firstCursor s′) n))
 
   one-cue : OneCue s s′
-  unfolding Asks.command Asks.insertComponent Asks.scheduleEvent Asks.eventComponent Asks.privateByte Asks.knownCount Asks.knownDescriptor Asks.dtmfChar Asks.segmentationComponent Asks.audioComponent Asks.upid Times.effectiveTime Times.dvb Breaks.breakAnswer
+  unfolding Asks.command Asks.insertComponent Asks.scheduleEvent Asks.eventComponent Asks.privateByte Asks.knownCount Asks.knownDescriptor Asks.dtmfChar Asks.segmentationComponent Asks.audioComponent Asks.upid Times.effectiveTime Times.dvb Breaks.breakAnswer Dash.dashDuration
   one-cue =
       record {
         command = both Command.Refused (λ c. Commands.command s) (λ c. Commands.command s′) commands;
@@ -174,6 +174,9 @@ module _ (s s′ : List ℕ) (hs : AreBytes s) (hs′ : AreBytes s′) (e : acce
         breakAnswer =
             both refusedBreak (λ c. breakBy (Commands.command s) (knownReadings s c)) (λ c. breakBy (Commands.command s′) (knownReadings s′ c))
             (λ i. breakBy (commands i) (readings i));
+        dashDuration =
+            both DashDuration.Refused (λ c. dashBy (Commands.command s) (knownReadings s c)) (λ c. dashBy (Commands.command s′) (knownReadings s′ c))
+            (λ i. dashBy (commands i) (readings i));
         labelBytes = λ house. label-is s e h hs house ∙ ap (billed house) (alike-rows .lists) ∙ sym (label-is s′ e′ h′ hs′ house);
       }
 
@@ -182,32 +185,3 @@ module _ (s s′ : List ℕ) (hs : AreBytes s) (hs′ : AreBytes s′) (e : acce
 pub demand-3 : (s s′ : List ℕ) → AreBytes s → AreBytes s′ → acceptOf s ≡ Accepted → acceptOf s′ ≡ Accepted
     → eqb (the s "encrypted_packet") 1 ≡ false → eqb (the s′ "encrypted_packet") 1 ≡ false → Same (sheetOf s) (sheetOf s′) → OneCue s s′
 demand-3 = one-cue
-
--- ---- what is unread
-
-pub sealed-unread : (s : List ℕ) → acceptOf s ≡ Accepted → eqb (the s "encrypted_packet") 1 ≡ true → Breaks.breakAnswer s ≡ Break.Unread
-unfolding Breaks.breakAnswer
-sealed-unread s e h = when-refused refusedBreak (λ c. breakBy (Commands.command s) (knownReadings s c)) Refusal.Sealed (sealed-open s e h)
-
--- no type of Table 7
-unread-type : (t : Trace) → isAmong (look t "splice_command_type") (0x00 ∷ 0x04 ∷ 0x05 ∷ 0x06 ∷ 0x07 ∷ 0xFF ∷ []) ≡ false → commandOf t ≡ Command.Unread
-unfolding commandOf
-unread-type t h =
-    let x : ℕ = look t "splice_command_type" in
-    let n0 = neither (eqb x 0x00) (isAmong x (0x04 ∷ 0x05 ∷ 0x06 ∷ 0x07 ∷ 0xFF ∷ [])) h in
-    let n4 = neither (eqb x 0x04) (isAmong x (0x05 ∷ 0x06 ∷ 0x07 ∷ 0xFF ∷ [])) (n0 .1) in
-    let n5 = neither (eqb x 0x05) (isAmong x (0x06 ∷ 0x07 ∷ 0xFF ∷ [])) (n4 .1) in
-    let n6 = neither (eqb x 0x06) (isAmong x (0x07 ∷ 0xFF ∷ [])) (n5 .1) in
-    let n7 = neither (eqb x 0x07) (isAmong x (0xFF ∷ [])) (n6 .1) in
-    let n255 = neither (eqb x 0xFF) false (n7 .1) in
-    rw (n0 .0, n4 .0, n5 .0, n6 .0, n7 .0, n255 .0)
-
-pub unknown-unread : (s : List ℕ) → acceptOf s ≡ Accepted
-    → isAmong (look (commandTrace s) "splice_command_type") (0x00 ∷ 0x04 ∷ 0x05 ∷ 0x06 ∷ 0x07 ∷ 0xFF ∷ []) ≡ false
-    → Breaks.breakAnswer s ≡ Break.Unread
-unfolding Breaks.breakAnswer
-unknown-unread s e q =
-    ⊎-elim (sealed-unread s e)
-    (λ h. when-open refusedBreak (λ c. breakBy (Commands.command s) (knownReadings s c)) (firstCursor s) (open-first s e h)
-    ∙ ap (λ (c : Command). breakBy c (knownReadings s (firstCursor s))) (command-is s e h ∙ unread-type (commandTrace s) q))
-    (by-cases (eqb (the s "encrypted_packet") 1))

@@ -5,4 +5,5 @@ pub mod Rows
 pub mod Numbers
 pub mod Listed
 pub mod Demand3
+pub mod Unread
 pub mod Pairs

@@ -17,6 +17,7 @@ use Rattle.grammar.specs.Meaning.{values, bind, Reading, broken, reached, after
 use Rattle.grammar.specs.Tables.{splice-time, break-duration, avail-numbers, avails, schedule-times, schedule-event, splice-schedule, insert-component, insert-times, splice-insert, private-command, command, sized-command}
 use Rattle.grammar.specs.Traces.{Trace, traceOf, numbers, joined, blank}
 use Rattle.grammar.specs.Names.{look}
+use Rattle.grammar.specs.Left.{left}
 use Rattle.grammar.proofs.Traces.{numbers-append}
 use Rattle.grammar.proofs.Endless.{endless}
 use Rattle.grammar.proofs.Scope.{scoped, Agree, same-read}
@@ -30,7 +31,6 @@ use Rattle.sheet.specs.Sheet.{sectionTrace}
 use Rattle.sheet_reading.proofs.Trace.{first, last}
 use Rattle.sheet_reading.proofs.Trace as header
 use Rattle.command_reading.specs.Command.{commandReading, typed, commandTrace}
-use Rattle.demands.specs.Same.{left}
 use Rattle.demands.proofs.Walked.{blanksAt}
 use Rattle.demands.proofs.Rows.{typedRows, cursors, Left}
 

@@ -13,6 +13,7 @@ use Rattle.grammar.specs.Meaning.{values, reached, read}
 use Rattle.grammar.specs.Tables.{header, bytes, splice-time, break-duration, avail-numbers, avails, schedule-times, schedule-event, splice-schedule, insert-component, insert-times, splice-insert, private-command, command, sized-command, splice-descriptor}
 use Rattle.grammar.specs.Traces.{Trace, traceOf, blank}
 use Rattle.grammar.specs.Names.{Name, isNamed, before}
+use Rattle.grammar.specs.Left.{without, parts, own, front, descriptors}
 use Rattle.grammar.proofs.Traces.{blank-append}
 use Rattle.grammar.proofs.Each.{all, every, Each, each-append, each-values, trace-each}
 use Rattle.grammar.proofs.Names.{other, before-past}
@@ -29,7 +30,6 @@ use Rattle.sheet.specs.Sheet.{sectionTrace}
 use Rattle.sheet_reading.proofs.Trace.{first, last}
 use Rattle.known_walk.specs.Known.{knownAmong, knownCursors}
 use Rattle.known_walk.proofs.KnownAmong.{in-section}
-use Rattle.demands.specs.Same.{without, parts, own, front, descriptors}
 use Rattle.demands.proofs.Walked.{without-past, without-none, without-each, parts-past, walked-read, none-stuffing, blanksAt, loop-parts, own-blanks, all-blanked}
 
 -- splice_command_type, and then a command

@@ -14,6 +14,7 @@ use Rattle.grammar.specs.Meaning.{values, read, run}
 use Rattle.grammar.specs.Tables.{avail-descriptor, dtmf-descriptor, delivery, segmentation-components, segmentation-end, segmentation-descriptor, time-descriptor, audio-descriptor, known-descriptor, splice-descriptor}
 use Rattle.grammar.specs.Traces.{Trace, blank}
 use Rattle.grammar.specs.Names.{Name, isNamed, look, before}
+use Rattle.grammar.specs.Left.{without, parts, isOwn, own}
 use Rattle.grammar.proofs.Ends.{given}
 use Rattle.grammar.proofs.Each.{every, Each, each-append, trace-each}
 use Rattle.grammar.proofs.Names.{other, before-past, Opens, opens}
@@ -26,7 +27,6 @@ use Rattle.descriptors.specs.Walk.{byTag, kindOf, stepOf}
 use Rattle.descriptors.specs.Loop.{onStep, walk, walked, traceAt, tracesAt}
 use Rattle.descriptors.proofs.Walk.{stepped}
 use Rattle.known_walk.specs.Known.{isKnown, knownAmong}
-use Rattle.demands.specs.Same.{without, parts, isOwn, own}
 
 -- ---- rows taken out
 

@@ -6,6 +6,7 @@ use Prim.Native.Nat.{ℕ}
 use Rattle.descriptor_reading.specs.declared.answers.Upid.{Upid}
 use Rattle.reading.specs.Reading as Asks
 use Rattle.breaks.specs.Breaks as Breaks
+use Rattle.breaks.specs.Dash as Dash
 use Rattle.times.specs.Times as Times
 use Rattle.labels.specs.Labels as Labels
 
@@ -35,4 +36,5 @@ pub record OneCue (s s′ : List ℕ) : Type 0 where
   pub effectiveTime : Times.effectiveTime s ≡ Times.effectiveTime s′
   pub dvb : Times.dvb s ≡ Times.dvb s′
   pub breakAnswer : Breaks.breakAnswer s ≡ Breaks.breakAnswer s′
+  pub dashDuration : Dash.dashDuration s ≡ Dash.dashDuration s′
   pub labelBytes : (house : List ℕ) → Labels.labelBytes s house ≡ Labels.labelBytes s′ house

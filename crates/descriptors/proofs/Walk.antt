@@ -20,7 +20,7 @@ use Rattle.descriptors.specs.declared.Step.{Step}
 use Rattle.descriptors.specs.declared.Step.the-variants.{Descriptor, Done, Broken}
 use Rattle.descriptors.specs.Walk.{kindOf, found, stepOf}
 use Rattle.grammar.proofs.Scope.{scoped, same-run}
-use Rattle.grammar.proofs.Plain.{plain, breach-bare}
+use Rattle.grammar.proofs.Plain.{giving, breach-bare}
 use Rattle.grammar.proofs.Frames.{fields-end, frame-end}
 
 -- ---- Table 17 itself
@@ -32,7 +32,7 @@ same-descriptor = same-run splice-descriptor refl
 
 -- it breaks with no number of its own
 pub bare-descriptor : (env : Env) (f : ℕ → ℕ) (end k n : ℕ) → run splice-descriptor env f end k ≡ breach n → n ≡ 0
-unfolding plain avail-descriptor dtmf-descriptor delivery segmentation-components segmentation-end segmentation-descriptor time-descriptor audio-descriptor known-descriptor splice-descriptor
+unfolding giving avail-descriptor dtmf-descriptor delivery segmentation-components segmentation-end segmentation-descriptor time-descriptor audio-descriptor known-descriptor splice-descriptor
 bare-descriptor = breach-bare splice-descriptor refl
 
 -- it ends whole bytes after its tag and its length, within the part

@@ -1,1 +1,3 @@
-pub mod Numbers
+pub mod Commands
+pub mod Events
+pub mod Parts

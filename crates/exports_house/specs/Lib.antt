@@ -1,1 +1,3 @@
-pub mod Numbers
+pub mod Billing
+pub mod Timing
+pub mod Turns

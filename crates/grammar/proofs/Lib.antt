@@ -7,6 +7,7 @@ pub mod Within
 pub mod Frames
 pub mod Scope
 pub mod Plain
+pub mod Numbered
 pub mod RoundTrip
 pub mod Reserved
 pub mod Octets
@@ -20,3 +21,5 @@ pub mod Firsts
 pub mod Blank
 pub mod Determined
 pub mod Keys
+pub mod Cues
+pub mod Types

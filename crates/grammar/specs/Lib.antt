@@ -5,3 +5,4 @@ pub mod Ended
 pub mod Traces
 pub mod Writing
 pub mod Names
+pub mod Left

@@ -96,6 +96,10 @@ splice-insert =
 unfoldable pub private-command : Prog
 private-command = fields (field 32 "identifier" ∷ []) (bytes "private_byte")
 
+-- Table 7, the command types that the standard has
+abbrev pub command-types : List ℕ
+command-types = 0x00 ∷ 0x04 ∷ 0x05 ∷ 0x06 ∷ 0x07 ∷ 0xFF ∷ []
+
 -- Tables 8 to 12, by splice_command_type (Table 7); `otherwise` for the types whose end only splice_command_length gives
 unfoldable pub command : Prog → Prog → Prog
 command private-one otherwise =

@@ -1,2 +1,3 @@
 pub mod LabelPart
+pub mod LabelBytes
 pub mod Left

@@ -1,25 +1,32 @@
--- However a stream is cut into inputs, and whatever room each turn has, what is said of it is what the tally says of the whole.
+-- However a stream is cut into inputs, and whatever room each turn has, what the turns and the last line answer is what the tally says
+-- of the whole; and none of them is refused.
 -- Assumes nothing.
 use mathlib.Core.Path.{_≡_, refl, sym, ap, ap₂, _∙_, subst}
-use mathlib.Core.Bool.{Bool, true, false, cond}
+use mathlib.Core.Bool.{Bool, true, false, cond, _||_}
 use mathlib.Core.Logic.{_⊎_, inl, inr}
 use mathlib.Core.List.{List, [], _∷_, _++_, append-assoc, append-nil}
 use Prim.Native.Nat.{ℕ, zero, suc, _+_, _-_, _≤_, _<_}
 use native.Mathlib.Omega.{arith}
 use lib.ListN.{length, take, drop, length-append, length-drop}
-use lib.Seq.{length-take-le, take-at, take-length, take-append-add}
+use lib.Seq.{length-take-le, take-at, take-length, take-append-add, take-append-seam}
 use lib.Dec.{eqb, ltb}
-use borrow.Author.Tests.{eqb-true, ne-eqb}
+use borrow.Author.Tests.{eqb-true, ne-eqb, le-ltb}
 use Rattle.bits.proofs.Cases.{le-or-lt}
 use Rattle.spelling.specs.declared.Line.{Line}
 use Rattle.line.specs.Line.{lineAnswer}
 use Rattle.spelling.specs.Spelling.{spelled}
+use Rattle.spelling.proofs.Spelled.{short}
+use Rattle.units.specs.declared.refusals.Refusal.the-variants.{TextLen}
+use Rattle.units.specs.declared.refusals.Written.the-variants.{Count}
+use Rattle.units.specs.Answers.{answer, memory}
 use Rattle.line.proofs.Answered.{too-long}
 use Rattle.lines.specs.declared.answers.Held.{Held}
+use Rattle.lines.specs.declared.answers.Turn.{Turn}
 use Rattle.lines.specs.Stream.{cut, said, tally, Handed}
 use Rattle.lines.specs.Stream as stream
-use Rattle.lines.specs.Turns.{heldWith, carryWith, heldAnswer, ended, carryEnded, Turned, kept, full, after, turned, lastSaid}
+use Rattle.lines.specs.Turns.{heldWith, carryWith, heldAnswer, ended, carryEnded, Turned, kept, full, after, turned, turnAnswer, lastSaid, lastRow, lastAnswer, lastOut}
 use Rattle.lines.proofs.Holding.{fit, no-fit}
+use Rattle.lines.proofs.Turning.{turn-is}
 
 -- ---- lines that are ended, and the line that is not
 
@@ -255,11 +262,11 @@ rest-append line (c ∷ a) b = by (eqb c 10) (rest-append [] a b) (rest-append (
     by true ends goes = ends
     by false ends goes = goes
 
-along : {held : Held} {carry stream answers : List ℕ} → Handed held carry stream answers → Along held carry stream answers
-unfolding done rest said
-along (stream.start carry h) = record { room = h; words = refl; holds = (omega arith, refl) }
-along (stream.turn {held} {carry} {stream} {answers} before input room) =
-    let so = along before in
+-- a turn keeps that
+along-turn : {held : Held} {carry stream answers : List ℕ} → Along held carry stream answers → (input : List ℕ) (room : ℕ)
+    → Along (turned held carry [] room input .held) (turned held carry [] room input .carry)
+    (stream ++ take (turned held carry [] room input .taken) input) (answers ++ turned held carry [] room input .said)
+along-turn {held} {carry} {stream} so input room =
     let t : Turned = turned held carry [] room input in
     let now = says held carry [] (rest [] stream) room input (so .room) (so .holds) plain-none in
     let y : List ℕ = take (t .taken) input in
@@ -268,6 +275,29 @@ along (stream.turn {held} {carry} {stream} {answers} before input room) =
       words = ap₂ (λ (a b : List ℕ). a ++ b) (so .words) (now .words) ∙ sym (said-append (done [] stream) (done (rest [] stream) y)) ∙ ap said (sym (done-append [] stream y));
       holds = subst (λ (x : List ℕ). Stands (t .held) (t .carry) x) (sym (rest-append [] stream y)) (now .holds);
     }
+
+-- the same, said in another way
+along-as : {h h′ : Held} {c c′ s s′ a a′ : List ℕ} → h ≡ h′ → c ≡ c′ → s ≡ s′ → a ≡ a′ → Along h c s a → Along h′ c′ s′ a′
+along-as {h} {h′} {c} {c′} {s} {s′} {a} {a′} p q r w x =
+    subst (λ (y : Held). Along y c′ s′ a′) p
+    (subst (λ (y : List ℕ). Along h y s′ a′) q (subst (λ (y : List ℕ). Along h c y a′) r (subst (λ (y : List ℕ). Along h c s y) w x)))
+
+-- what a turn answers is how it went
+along : {held : Held} {carry stream answers : List ℕ} → Handed held carry stream answers → Along held carry stream answers
+unfolding done rest said
+along (stream.start carry h) = record { room = h; words = refl; holds = (omega arith, refl) }
+along (stream.turn {held} {next} {carry} {stream} {answers} {taken} {written} before input out e) =
+    let so = along before in
+    let t : Turned = turned held carry [] (length out) input in
+    let is = turn-is held input carry out (so .room) t refl in
+    let moved : Turn.Moved (t .held) (t .taken) (length (t .said)) ≡ Turn.Moved next taken written = is .0 ∙ e in
+    let holds : t .held ≡ next = cc in
+    let takes : t .taken ≡ taken = cc in
+    let writes : length (t .said) ≡ written = cc in
+    along-as holds (is .1) (ap (λ (k : ℕ). stream ++ take k input) takes)
+    (ap (λ (x : List ℕ). answers ++ x)
+    (sym (take-append-seam (t .said) (drop (length (t .said)) out)) ∙ ap₂ (λ (k : ℕ) (x : List ℕ). take k x) writes (is .2)))
+    (along-turn so input (length out))
 
 -- at the end of the stream the line that is held is ended, if it is not empty
 last-is : (held : Held) (carry line : List ℕ) → 5464 ≤ length carry → Stands held carry line → lastSaid held carry ≡ said (cut line [])
@@ -283,11 +313,50 @@ last-is Held.TooLong carry line h s =
     ∙ sym (append-nil (spelled (lineAnswer line)))
     ∙ ap (λ (b : Bool). said (cond b [] (line ∷ []))) (sym (ne-eqb (length line) 0 (λ z. omega (arith, s, z))))
 
--- however it was cut
-pub however-cut : {held : Held} {carry stream answers : List ℕ} → Handed held carry stream answers → answers ++ lastSaid held carry ≡ tally stream
+-- where the last line answers a count, it stands at the front of the output
+last-front : (held : Held) (carry out : List ℕ) (n : ℕ) → lastAnswer held carry out ≡ Count n → take n (lastOut held carry out) ≡ lastSaid held carry
+unfolding lastAnswer lastOut
+last-front held carry out n e = by (lastRow held carry out) e
+  where
+    by : (row : ℕ) → answer row (length (lastSaid held carry)) ≡ Count n → take n (memory row (lastSaid held carry) out) ≡ lastSaid held carry
+    by zero q =
+        let same : length (lastSaid held carry) ≡ n = cc in
+        ap (λ (k : ℕ). take k (lastSaid held carry ++ drop (length (lastSaid held carry)) out)) (sym same)
+        ∙ take-append-seam (lastSaid held carry) (drop (length (lastSaid held carry)) out)
+    by (suc row) q = let z : _≡_ {A = ℕ} 0 1 = cc in absurd (omega arith)
+
+-- however it was cut: the answers of the turns and then of the last line are the tally's
+pub however-cut : {held : Held} {carry stream answers : List ℕ} {n : ℕ} → Handed held carry stream answers → (out : List ℕ)
+    → lastAnswer held carry out ≡ Count n → answers ++ take n (lastOut held carry out) ≡ tally stream
 unfolding tally
-however-cut {held} {carry} {stream} {answers} handed =
+however-cut {held} {carry} {stream} {answers} {n} handed out e =
     let so = along handed in
-    ap₂ (λ (a b : List ℕ). a ++ b) (so .words) (last-is held carry (rest [] stream) (so .room) (so .holds))
+    ap₂ (λ (a b : List ℕ). a ++ b) (so .words)
+    (last-front held carry out n e ∙ last-is held carry (rest [] stream) (so .room) (so .holds))
     ∙ sym (said-append (done [] stream) (cut (rest [] stream) []))
     ∙ ap said (sym (cut-append [] stream []) ∙ ap (cut []) (append-nil stream))
+
+-- ---- nothing on the way is refused
+
+-- a turn never is, over any input and any output
+pub turns-on : {held : Held} {carry stream answers : List ℕ} → Handed held carry stream answers → (input out : List ℕ)
+    → (next : Held) × (taken : ℕ) × (written : ℕ) × (turnAnswer held input carry out ≡ Turn.Moved next taken written)
+turns-on {held} {carry} handed input out =
+    let t : Turned = turned held carry [] (length out) input in
+    (t .held, t .taken, length (t .said), sym (turn-is held input carry out (along handed .room) t refl .0))
+
+-- nor the last line, with room for the longest answer
+last-short : (held : Held) (carry : List ℕ) → length (lastSaid held carry) ≤ 23
+unfolding lastSaid
+last-short (Held.Characters zero) carry = omega arith
+last-short (Held.Characters (suc n)) carry = short (ended (Held.Characters (suc n)) carry [])
+last-short Held.TooLong carry = short (Line.Refused TextLen)
+
+pub last-counts : {held : Held} {carry stream answers : List ℕ} → Handed held carry stream answers → (out : List ℕ) → 23 ≤ length out
+    → (n : ℕ) × (lastAnswer held carry out ≡ Count n)
+unfolding lastAnswer lastRow
+last-counts {held} {carry} handed out h = (
+  length (lastSaid held carry),
+  ap₂ (λ (a b : Bool). answer (cond (a || b) 11 0) (length (lastSaid held carry))) (le-ltb (length carry) 5464 (along handed .room))
+      (le-ltb (length out) (length (lastSaid held carry)) (omega (arith, last-short held carry))),
+)

@@ -149,7 +149,7 @@ module _ (held : Held) (input carry out : List ℕ) where
       → (Turn.Refused Room ≡ turnAnswer held input carry out) × (carry ≡ turnCarry held input carry out) × (out ≡ turnOut held input carry out)
   turn-refused h = by-carry true (lt-ltb _ _ h)
 
-  turn-is : 5464 ≤ length carry → (t : Turned) → turned held carry [] (length out) input ≡ t
+  pub turn-is : 5464 ≤ length carry → (t : Turned) → turned held carry [] (length out) input ≡ t
       → (moved 0 t ≡ turnAnswer held input carry out)
       × (t .carry ≡ turnCarry held input carry out)
       × (t .said ++ drop (length (t .said)) out ≡ turnOut held input carry out)

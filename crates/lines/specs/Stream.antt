@@ -1,5 +1,6 @@
 -- What the tally says of a stream: its lines, each with its answer.
 -- Assumes nothing.
+use mathlib.Core.Path.{_≡_}
 use Prim.Native.Nat.{ℕ, _≤_}
 use mathlib.Core.Bool.{cond}
 use mathlib.Core.List.{List, [], _∷_, _++_}
@@ -8,7 +9,8 @@ use lib.Dec.{eqb}
 use Rattle.line.specs.Line.{lineAnswer}
 use Rattle.spelling.specs.Spelling.{spelled}
 use Rattle.lines.specs.declared.answers.Held.{Held}
-use Rattle.lines.specs.Turns.{turned}
+use Rattle.lines.specs.declared.answers.Turn.{Turn}
+use Rattle.lines.specs.Turns.{turnAnswer, turnCarry, turnOut}
 
 -- the lines of a stream, the first of which starts with `line`: a newline byte ends a line, and so does the end of the stream where the line is not empty
 unfoldable pub cut : List ℕ → List ℕ → List (List ℕ)
@@ -26,10 +28,11 @@ tally s = said (cut [] s)
 
 -- ---- a stream that is handed over in turns
 
--- what is held, the carry buffer, the stream as far as it was taken, and all answers so far: at the start, and after one turn more over any input
--- with any room
+-- what is held, the carry buffer, the stream as far as it was taken, and all answers so far. At the start nothing is held, and the carry
+-- buffer has room for the longest text. Each turn more goes over any input and any output: it answers what is held then, how much of the
+-- input is taken, and how much is written at the front of the output
 pub data Handed : Held → List ℕ → List ℕ → List ℕ → Type 0 where
   start : (carry : List ℕ) → 5464 ≤ length carry → Handed (Held.Characters 0) carry [] []
-  turn : {held : Held} {carry stream answers : List ℕ} → Handed held carry stream answers → (input : List ℕ) (room : ℕ)
-      → Handed (turned held carry [] room input .held) (turned held carry [] room input .carry)
-      (stream ++ take (turned held carry [] room input .taken) input) (answers ++ turned held carry [] room input .said)
+  turn : {held next : Held} {carry stream answers : List ℕ} {taken written : ℕ} → Handed held carry stream answers → (input out : List ℕ)
+      → turnAnswer held input carry out ≡ Turn.Moved next taken written
+      → Handed next (turnCarry held input carry out) (stream ++ take taken input) (answers ++ take written (turnOut held input carry out))

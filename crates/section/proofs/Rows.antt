@@ -1,10 +1,10 @@
 -- The rows of acceptance, as the code tests them: what each asks of the header's bytes.
 -- Assumes nothing.
-use mathlib.Core.Path.{_≡_, refl, ap, ap₂, _∙_}
+use mathlib.Core.Path.{_≡_, refl, sym, ap, ap₂, _∙_}
 use mathlib.Core.Bool.{Bool, true, false, not, _||_}
 use mathlib.Core.List.{List, [], _∷_}
 use mathlib.Core.Logic.{⊎-elim}
-use Prim.Native.Nat.{ℕ, _+_, _-_, _*_, _≤_, _<_}
+use Prim.Native.Nat.{ℕ, zero, suc, _+_, _-_, _*_, _≤_, _<_}
 use native.Mathlib.Omega.{arith}
 use lib.ListN.{length, getD}
 use lib.Dec.{ltb, eqb}
@@ -13,16 +13,19 @@ use Rattle.bits.specs.Bits.{bit}
 use Rattle.bits.proofs.Bytes.{AreBytes}
 use Rattle.bits.proofs.Cases.{or-left, or-right, le-or-lt}
 use Rattle.grammar.proofs.Places.{flag-test, octet}
-use Rattle.grammar.specs.Meaning.{bind, run, Outcome, ends}
+use Rattle.grammar.specs.Meaning.{bind, run, Outcome, breach, ends}
 use Rattle.grammar.specs.Tables.{header, payload, splice-info-section}
 use Rattle.grammar.proofs.Run.{Runs, pass, yes-last, no-last, filled-last, swept-bytes}
 use Rattle.section.specs.declared.Verdict.{Verdict}
-use Rattle.units.specs.declared.refusals.Refusal.the-variants.{Command, Loop, Descriptor}
-use Rattle.units.specs.Refusals.{numberOf}
-use Rattle.units.proofs.Numbers.{number-only}
+use Rattle.units.specs.Refusals.{numberOf, named}
+use Rattle.units.proofs.Numbers.{named-back}
 use Rattle.units.proofs.Rows.{Row, none, miss, hit}
 use Rattle.section.specs.declared.Verdict.the-variants.{Accepted, Refused}
 use Rattle.section.specs.Accept.{the, grammarOf, breaks, complete, judged, grammatical, verdict}
+
+pub size : (s : List ℕ) → the s "section_length" ≤ 4093 → the s "section_length" + 3 ≡ length s
+    → (ltb 4093 (the s "section_length") || not (eqb (the s "section_length" + 3) (length s))) ≡ false
+size s h e = ap₂ (λ (t u : Bool). t || not u) (le-ltb 4093 (the s "section_length") h) (eq-eqb (the s "section_length" + 3) (length s) e)
 
 module _ (s : List ℕ) (hs : AreBytes s) where
   table-id : (b : Bool) → eqb (getD s 0 0) 0xFC ≡ b → not (eqb (the s "table_id") 0xFC) ≡ not b
@@ -47,10 +50,6 @@ module _ (s : List ℕ) (hs : AreBytes s) where
       (λ l. or-left _ _ (flag-test s 1 0 8 1 1 (omega arith) refl (omega (arith, hs 1))))
       (λ l. or-right _ _ (flag-test s 1 0 8 0 1 (omega arith) refl (omega arith)) (flag-test s 1 1 9 1 1 (omega arith) refl (omega arith)))
       (le-or-lt 128 (getD s 1 0))
-
-  pub size : the s "section_length" ≤ 4093 → the s "section_length" + 3 ≡ length s
-      → (ltb 4093 (the s "section_length") || not (eqb (the s "section_length" + 3) (length s))) ≡ false
-  size h e = ap₂ (λ (t u : Bool). t || not u) (le-ltb 4093 (the s "section_length") h) (eq-eqb (the s "section_length" + 3) (length s) e)
 
   pub too-long : 4093 < the s "section_length" → (ltb 4093 (the s "section_length") || not (eqb (the s "section_length" + 3) (length s))) ≡ true
   too-long h = or-left _ _ (lt-ltb 4093 (the s "section_length") h)
@@ -103,16 +102,30 @@ sealed-whole s long closed =
 abbrev pub last-rows : Outcome → List (Bool × ℕ)
 last-rows o = (breaks o 8, 8) ∷ (breaks o 9, 9) ∷ (not (complete o), 10) ∷ []
 
+-- the row that a breach comes to is its number
+pub own-row : (n : ℕ) → 8 ≤ n → n ≤ 10 → Row (last-rows (breach n)) n
+unfolding breaks complete
+own-row n l h =
+    ⊎-elim
+    (λ a. ⊎-elim
+    (λ b. is 10 (omega arith) (miss (ne-eqb n 8 (λ q. omega arith)) (miss (ne-eqb n 9 (λ q. omega arith)) (hit refl))))
+    (λ b. is 9 (omega arith) (miss (ne-eqb n 8 (λ q. omega arith)) (hit (eq-eqb n 9 (omega arith)))))
+    (le-or-lt 10 n))
+    (λ a. is 8 (omega arith) (hit (eq-eqb n 8 (omega arith))))
+    (le-or-lt 9 n)
+  where
+    is : (m : ℕ) → m ≡ n → Row (last-rows (breach n)) m → Row (last-rows (breach n)) n
+    is m e r = record { row = r .row ∙ e }
+
+-- the verdict of a row is its refusal
+row-verdict : (n : ℕ) → 0 < n → verdict n ≡ Refused (named n)
+unfolding verdict
+row-verdict zero h = absurd (omega arith)
+row-verdict (suc n) h = refl
+
 -- the row and the verdict that a verdict of the grammar's comes to
 pub last-row : (r : Verdict) (end : ℕ) → grammatical r → (n : ℕ) × Row (last-rows (judged end r)) n × (r ≡ verdict n)
 unfolding breaks complete verdict
 last-row Accepted end h = (0, miss refl (miss refl (miss refl none)), refl)
 last-row (Refused x) end h =
-    let b : ℕ = numberOf x in
-    ⊎-elim
-    (λ l. ⊎-elim
-    (λ m. (10, miss (ne-eqb b 8 (λ q. omega arith)) (miss (ne-eqb b 9 (λ q. omega arith)) (hit refl)), ap Refused (number-only x Descriptor (omega arith))))
-    (λ m. (9, miss (ne-eqb b 8 (λ q. omega arith)) (hit (eq-eqb b 9 (omega arith))), ap Refused (number-only x Loop (omega arith))))
-    (le-or-lt 10 b))
-    (λ l. (8, hit (eq-eqb b 8 (omega arith)), ap Refused (number-only x Command (omega arith))))
-    (le-or-lt 9 b)
+    (numberOf x, own-row (numberOf x) (h .0) (h .1), ap Refused (sym (named-back x)) ∙ sym (row-verdict (numberOf x) (omega (arith, h .0))))

@@ -21,8 +21,9 @@ use Rattle.units.specs.Answers.{answer, memory}
 use Rattle.section.specs.declared.Verdict.{Verdict}
 use Rattle.section.specs.declared.Verdict.the-variants.{Accepted}
 use Rattle.section.specs.Accept.{acceptOf}
-use Rattle.sheet.specs.Sheet.{sheetOf, fieldsBetween, roomFor, fitting, lengthFor, planFor, filled, summed, sectionOf, isAccepted, same, isSheetOf, sectionRow, toSection, toSectionInto}
+use Rattle.sheet.specs.Sheet.{sheetOf, fieldsBetween, roomFor, fitting, lengthFor, planFor, filled, summed, sectionOf, isAccepted, same, isSheetOf, sectionRow, toSection, toSectionInto, toSheet, toSheetInto}
 use Rattle.sheet_reading.proofs.Trace.{whole}
+use Rattle.sheet_reading.proofs.SheetRows.{sheet-written}
 use Rattle.sheet_matching.proofs.Same.{same-refl, same-true}
 use Rattle.sheet.proofs.Back.{back, zero-bytes, all-bytes, front-bytes}
 
@@ -154,6 +155,16 @@ written-back s out bytes a room =
     first-row x (length out) true (sheet-accepted s bytes a)
     ∙ ap (λ (b : Bool). cond b 11 0) (ap (λ (l : List ℕ). ltb (length out) (length l)) e ∙ le-ltb (length out) (length s) room) in
     (ap₂ (λ (n : ℕ) (l : List ℕ). answer n (length l)) row e, ap₂ (λ (n : ℕ) (l : List ℕ). memory n l out) row e)
+
+-- the mirror: a sheet that is not refused comes back from the section that it makes, where there is room
+pub read-back : (x lent out : List ℕ) → (toSection x lent ≡ Refused Sheet → ⊥) → length x ≤ length out
+    → (toSheet (sectionOf x) out ≡ Count (length x)) × (toSheetInto (sectionOf x) out ≡ x ++ drop (length x) out)
+read-back x lent out h room =
+    let has = sheet-section-sheet x (⊎-elim (λ q. q) (λ q. absurd (h (refused-sheet x lent (none-made x q) .0))) (by-cases (isSheetOf x (sectionOf x)))) in
+    let is = sheet-written (sectionOf x) out (has .accepted) (omega (arith, ap length (has .sheet))) in (
+      sym (is .0) ∙ ap (λ (l : List ℕ). Count (length l)) (has .sheet),
+      sym (is .1) ∙ ap (λ (l : List ℕ). l ++ drop (length l) out) (has .sheet),
+    )
 
 -- and a count is answered only for the sheet of a section, with that section's bytes in front
 pub counted : (x out : List ℕ) (n : ℕ) → toSection x out ≡ Count n

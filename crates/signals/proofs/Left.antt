@@ -16,8 +16,7 @@ use Rattle.known_walk.specs.Known.{isKnown, knownAmong}
 use Rattle.descriptor_reading.specs.Descriptor.{standing, descriptorOf}
 use Rattle.known_walk.proofs.KnownAmong.{known-first, unknown-first, none-left, none-whole, in-section, too-long}
 use Rattle.known_walk.proofs.StandingRows.{known-here}
-use Rattle.signals.specs.declared.Break.{Break}
-use Rattle.signals.specs.Signals.{readAt, knownReadings, someOpens, signalBreak}
+use Rattle.signals.specs.Signals.{readAt, knownReadings}
 
 abbrev pub left : List ℕ → Cursor → List Descriptor
 left s c = readAt s (knownAmong s (walked s c))
@@ -27,9 +26,9 @@ module _ (s : List ℕ) (c : Cursor) where
   unfolding knownReadings
   all-left h = ap (readAt s) (sym (in-section s c h))
 
-  pub nothing-read : 4096 < length s → Break.None ≡ signalBreak (knownReadings s c)
-  unfolding knownReadings readAt someOpens signalBreak
-  nothing-read h = sym (ap (λ (cs : List Cursor). signalBreak (readAt s cs)) (too-long s c h))
+  pub nothing-read : 4096 < length s → knownReadings s c ≡ []
+  unfolding knownReadings readAt
+  nothing-read h = ap (readAt s) (too-long s c h)
 
   pub known-left : (kind : Kind) (next : Cursor) → length s ≤ 4096 → stepOf s c ≡ Step.Descriptor kind next → isKnown kind ≡ true
       → left s c ≡ standing s c ∷ left s next

@@ -1,3 +1,3 @@
 pub mod Left
 pub mod Others
-pub mod Signal
+pub mod Longest

@@ -6,9 +6,9 @@ use mathlib.Core.List.{List, [], _∷_}
 use Prim.Native.Nat.{ℕ}
 use types.Run.{OneOf, miss}
 use denote.Enum.Declared.{tagOf}
-use Rattle.segmentation_reading.specs.declared.answers.Duration.{Duration}
 use Rattle.descriptor_reading.specs.declared.answers.Descriptor.{Descriptor}
 use Rattle.descriptor_reading.proofs.answers.Descriptor as declared-descriptor
+use Rattle.signals.specs.declared.Measure.{Measure}
 use Rattle.signals.specs.Signals.{opens, carried}
 
 abbrev pub unsegmented : List ℕ
@@ -23,7 +23,7 @@ opens-none (Descriptor.Time seconds ns offset) h = refl
 opens-none (Descriptor.Audio n) h = refl
 opens-none (Descriptor.Refused r) h = refl
 
-pub carries-none : (d : Descriptor) → OneOf unsegmented (tagOf declared-descriptor.the-type d) → Duration.Absent ≡ carried d
+pub carries-none : (d : Descriptor) → OneOf unsegmented (tagOf declared-descriptor.the-type d) → Measure.Absent ≡ carried d
 carries-none (Descriptor.Avail id) h = refl
 carries-none (Descriptor.Dtmf preroll n) h = refl
 carries-none (Descriptor.Segmentation d) h = absurd (miss unsegmented 2 tt h)

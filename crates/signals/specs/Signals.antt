@@ -1,4 +1,4 @@
--- The break of a time signal.
+-- What a time signal says by the descriptors of its section: the break, and the longest duration.
 -- Assumes nothing.
 use Prim.Native.Nat.{ℕ}
 use mathlib.Core.Bool.{Bool, false, cond, _||_}
@@ -8,10 +8,13 @@ use Rattle.grammar.specs.Meaning.{isAmong}
 use Rattle.descriptors.specs.declared.Cursor.{Cursor}
 use Rattle.descriptors.specs.Loop.{traceAt}
 use Rattle.known_walk.specs.Known.{knownCursors}
+use Rattle.units.specs.declared.clock.EventId.{EventId}
 use Rattle.segmentation_reading.specs.declared.answers.Duration.{Duration}
 use Rattle.descriptor_reading.specs.declared.answers.Descriptor.{Descriptor}
 use Rattle.descriptor_reading.specs.Descriptor.{descriptorOf}
 use Rattle.signals.specs.declared.Break.{Break}
+use Rattle.signals.specs.declared.Measure.{Measure}
+use Rattle.signals.specs.declared.Signal.{Signal}
 
 -- ---- the known descriptors of an open section, in order
 
@@ -45,32 +48,59 @@ unfoldable pub someOpens : List Descriptor → Bool
 someOpens [] = false
 someOpens (d ∷ ds) = opens d || someOpens ds
 
+-- ---- how long it lasts
+
+-- a duration with the event whose descriptor carries it
+abbrev pub measureOf : EventId → Duration → Measure
+measureOf id Duration.Absent = Measure.Absent
+measureOf id (Duration.Present t) = Measure.Present id t
+
 -- the duration that an uncancelled segmentation descriptor carries
-abbrev pub carried : Descriptor → Duration
-carried (Descriptor.Avail id) = Duration.Absent
-carried (Descriptor.Dtmf preroll n) = Duration.Absent
-carried (Descriptor.Segmentation d) = d .duration
-carried (Descriptor.CancelledSegmentation id) = Duration.Absent
-carried (Descriptor.Time seconds ns offset) = Duration.Absent
-carried (Descriptor.Audio n) = Duration.Absent
-carried (Descriptor.Refused r) = Duration.Absent
+abbrev pub carried : Descriptor → Measure
+carried (Descriptor.Avail id) = Measure.Absent
+carried (Descriptor.Dtmf preroll n) = Measure.Absent
+carried (Descriptor.Segmentation d) = measureOf (d .«segmentation_event_id») (d .duration)
+carried (Descriptor.CancelledSegmentation id) = Measure.Absent
+carried (Descriptor.Time seconds ns offset) = Measure.Absent
+carried (Descriptor.Audio n) = Measure.Absent
+carried (Descriptor.Refused r) = Measure.Absent
 
--- the longer of two; an absent one is shorter than any
-abbrev pub longer : Duration → Duration → Duration
-longer Duration.Absent b = b
-longer (Duration.Present x) Duration.Absent = Duration.Present x
-longer (Duration.Present x) (Duration.Present y) = cond (leb (y .0) (x .0)) (Duration.Present x) (Duration.Present y)
+-- the same where the descriptor opens a break: no other measures it (02, §2)
+abbrev pub counted : Descriptor → Measure
+counted d = cond (opens d) (carried d) Measure.Absent
 
--- the house rule for how long a time signal's break lasts: the longest duration among all descriptors that carry one (000, clause 4.4.5)
-unfoldable pub signalDuration : List Descriptor → Duration
-signalDuration [] = Duration.Absent
-signalDuration (d ∷ ds) = longer (carried d) (signalDuration ds)
+-- the longer of two, and of two as long the first; an absent one is shorter than any
+abbrev pub longer : Measure → Measure → Measure
+longer Measure.Absent b = b
+longer (Measure.Present i x) Measure.Absent = Measure.Present i x
+longer (Measure.Present i x) (Measure.Present j y) = cond (leb (y .0) (x .0)) (Measure.Present i x) (Measure.Present j y)
+
+-- the longest of what each descriptor gives
+unfoldable pub longestBy : (Descriptor → Measure) → List Descriptor → Measure
+longestBy f [] = Measure.Absent
+longestBy f (d ∷ ds) = longer (f d) (longestBy f ds)
+
+-- what a time signal says by its descriptors: whether a break opens, what it is billed by (02, §2), and the longest duration of all,
+-- that of the DASH event (000, clause 4.4.5)
+unfoldable pub signalOf : List Descriptor → Signal
+signalOf ds = record { opened = someOpens ds; billed = longestBy counted ds; longest = longestBy carried ds }
 
 -- a break that lasts so long; without a duration it has no measure, and is never one of zero ticks
-abbrev pub lasting : Duration → Break
-lasting Duration.Absent = Break.Unmeasured
-lasting (Duration.Present t) = Break.Measured t
+abbrev pub lasting : Measure → Break
+lasting Measure.Absent = Break.Unmeasured
+lasting (Measure.Present id t) = Break.Measured t
 
--- a time signal opens one where a descriptor of its section does
+-- the break that a time signal opens, if it does
+abbrev pub breakOf : Signal → Break
+breakOf g = cond (g .opened) (lasting (g .billed)) Break.None
+
+-- a time signal's break, by its descriptors
 unfoldable pub signalBreak : List Descriptor → Break
-signalBreak ds = cond (someOpens ds) (lasting (signalDuration ds)) Break.None
+signalBreak ds = breakOf (signalOf ds)
+
+-- ---- for a private function
+
+-- what was found so far, and one descriptor more
+abbrev pub withOne : Signal → Descriptor → Signal
+withOne g d =
+    record { opened = g .opened || opens d; billed = longer (g .billed) (counted d); longest = longer (g .longest) (carried d) }

@@ -1,12 +1,12 @@
-// The break of a time signal: the walk over an open section's known descriptors. Takes any bytes and any cursor.
+// What a time signal says by its descriptors: one walk over an open section's known descriptors. Takes any bytes and any cursor.
 ghost use mathlib.Core.Path.{_≡_};
-ghost use mathlib.Core.Bool.{cond, _||_};
 ghost use Rattle.grammar.specs.Meaning.{isAmong};
-ghost use Rattle.signals.specs.Signals.{breakTypes, opens, carried, longer, lasting, signalBreak, knownReadings};
+ghost use Rattle.signals.specs.Signals.{breakTypes, opens, carried, longer, withOne, signalOf, breakOf, signalBreak, knownReadings};
 use descriptor_reading::Descriptor;
 use descriptor_reading::Duration;
 use descriptors::Cursor;
 use descriptors::Step;
+use units::EventId;
 use units::MOST_SECTION;
 use units::Refusal;
 use units::Ticks;
@@ -22,43 +22,97 @@ pub enum Break {
     Refused(Refusal),
 }
 
-// The break of a time signal: a descriptor opens it, and the longest duration measures it.
-pub fn signal_break(s: &[u8], cursor: Cursor) -> Break
-    ensures { λ r. ⌜ r ≡ signalBreak (knownReadings (now (s .entry)) cursor) ⌝ }
+// A duration, and the event whose descriptor carries it.
+pub enum Measure {
+    Absent,
+    Present(EventId, Ticks),
+}
+
+// What a time signal says by its descriptors.
+pub struct Signal {
+    pub opened: bool,
+    // The longest of those that open a break; of two as long the first.
+    pub billed: Measure,
+    // The longest of all.
+    pub longest: Measure,
+}
+
+// What the known descriptors from a cursor on say, in one walk.
+pub fn walk(s: &[u8], cursor: Cursor) -> Signal
+    ensures { λ r. ⌜ r ≡ signalOf (knownReadings (now (s .entry)) cursor) ⌝ }
 {
+    let mut found = Signal {
+        opened: false,
+        billed: Measure::Absent,
+        longest: Measure::Absent,
+    };
     if MOST_SECTION < s.len() {
-        return Break::None;
+        return found;
     }
     let mut place = cursor;
-    let mut opened = false;
-    let mut longest = Duration::Absent;
     loop {
         match place.step(s) {
             Step::Descriptor(kind, next) => {
                 if known_walk::is_known(kind) {
-                    let here = descriptor_reading::descriptor_at(s, place);
-                    opened = either(opened, opens(here));
-                    longest = longer(longest, carried(here));
+                    found = found.with(descriptor_reading::descriptor_at(s, place));
                 }
                 place = next;
             }
             Step::Done => {
-                return opening(opened, longest);
+                return found;
             }
             Step::Broken => {
-                return opening(opened, longest);
+                return found;
             }
         }
     }
 }
 
-fn either(a: bool, b: bool) -> bool
-    ensures { λ r. ⌜ r ≡ (a || b) ⌝ }
+// The break of a time signal: a descriptor opens it, and the longest duration of those that do measures it.
+pub fn signal_break(s: &[u8], cursor: Cursor) -> Break
+    ensures { λ r. ⌜ r ≡ signalBreak (knownReadings (now (s .entry)) cursor) ⌝ }
 {
-    if a {
-        return true;
+    walk(s, cursor).opening()
+}
+
+impl Signal {
+    // One descriptor more.
+    fn with(self, here: Descriptor) -> Signal
+        ensures { λ r. ⌜ r ≡ withOne self here ⌝ }
+    {
+        let opened = self.opened;
+        let billed = self.billed;
+        let longest = self.longest;
+        let measure = carried(here);
+        let longest = longer(longest, measure);
+        if !opens(here) {
+            return Signal {
+                opened,
+                billed,
+                longest,
+            };
+        }
+        let billed = longer(billed, measure);
+        Signal {
+            opened: true,
+            billed,
+            longest,
+        }
     }
-    b
+
+    // The break that it opens, if it does.
+    fn opening(self) -> Break
+        ensures { λ r. ⌜ r ≡ breakOf self ⌝ }
+    {
+        if !self.opened {
+            return Break::None;
+        }
+        let measure = self.billed;
+        match measure {
+            Measure::Absent => Break::Unmeasured,
+            Measure::Present(_, ticks) => Break::Measured(ticks),
+        }
+    }
 }
 
 // Whether a descriptor opens a break.
@@ -82,36 +136,31 @@ fn opens_break(segmentation_type_id: u8) -> bool
 }
 
 // The duration that a descriptor carries.
-fn carried(here: Descriptor) -> Duration
+fn carried(here: Descriptor) -> Measure
     ensures { λ r. ⌜ r ≡ carried here ⌝ }
 {
     match here {
-        Descriptor::Segmentation(segmentation) => segmentation.duration,
-        _ => Duration::Absent,
+        Descriptor::Segmentation(segmentation) => {
+            let duration = segmentation.duration;
+            let Duration::Present(ticks) = duration else {
+                return Measure::Absent;
+            };
+            let segmentation_event_id = segmentation.segmentation_event_id;
+            Measure::Present(segmentation_event_id, ticks)
+        }
+        _ => Measure::Absent,
     }
 }
 
-fn longer(a: Duration, b: Duration) -> Duration
+// The longer of two, and of two as long the first.
+fn longer(a: Measure, b: Measure) -> Measure
     ensures { λ r. ⌜ r ≡ longer a b ⌝ }
 {
-    let Duration::Present(x) = a else {
+    let Measure::Present(_, x) = a else {
         return b;
     };
-    let Duration::Present(y) = b else {
+    let Measure::Present(_, y) = b else {
         return a;
     };
     if y.0 <= x.0 { a } else { b }
-}
-
-// A break that lasts so long, if there is one.
-fn opening(opened: bool, longest: Duration) -> Break
-    ensures { λ r. ⌜ r ≡ cond opened (lasting longest) Break.None ⌝ }
-{
-    if !opened {
-        return Break::None;
-    }
-    match longest {
-        Duration::Absent => Break::Unmeasured,
-        Duration::Present(ticks) => Break::Measured(ticks),
-    }
 }

@@ -1,5 +1,5 @@
--- A promise names one answer and one content of lent memory: any two that it allows are equal. Every public promise is an
--- equation with a definition of the inputs, or a pair of such equations, so these two laws serve them all.
+-- A promise names one answer and one content of lent memory: any two that it allows are equal. A public promise is an equation
+-- with a definition of the inputs, or a pair of such equations; one with three or four is served by the first law, each in turn.
 -- Assumes nothing.
 use mathlib.Core.Path.{_≡_, sym, _∙_}
 

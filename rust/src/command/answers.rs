@@ -92,7 +92,8 @@ pub struct ScheduledEvent {
     pub avails: Avails,
 }
 
-/// When an event of a schedule takes place: the program at once, or each component at its own time.
+/// When an event of a schedule takes place (Table 9): the whole program at one utc_splice_time, or each
+/// component at its own.
 #[derive(Clone, Copy, Debug, PartialEq, Eq, Hash)]
 pub enum EventTime {
     Program {

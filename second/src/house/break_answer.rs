@@ -1,7 +1,8 @@
 //! The break answer: whether a section opens a break, and how long that is.
 
+use super::segments::{longest, segments};
 use crate::reading::{Entries, Reading};
-use crate::section::{Apart, Body, Clear, Command, Descriptor, Inside, Segment, SpliceInsert};
+use crate::section::{Apart, Clear, Command, Descriptor, Inside, Segment, SpliceInsert};
 
 /// The segmentation types that open a break (003).
 const OPENING_TYPES: [u8; 5] = [0x22, 0x30, 0x32, 0x34, 0x36];
@@ -52,15 +53,14 @@ impl Break {
         }
     }
 
-    /// One of the five types opens the break; the longest of all durations measures it (000, clause
-    /// 4.4.5), that of a descriptor which opens none as well.
+    /// One of the five types opens the break, and those of the five types alone measure it (02, §2):
+    /// a program that starts beside it may be longer, and is not billed.
     fn of_signal(descriptors: &[Descriptor]) -> Break {
-        let opens = |segment: &Segment| OPENING_TYPES.contains(&segment.segmentation_type_id);
-        if !segments(descriptors).any(opens) {
+        let opening: Vec<&Segment> = segments(descriptors).filter(opens).collect();
+        if opening.is_empty() {
             return Break::None;
         }
-        let durations = segments(descriptors).filter_map(|segment| segment.segmentation_duration);
-        Break::opened(durations.max())
+        Break::opened(longest(opening))
     }
 
     fn opened(ticks: Option<u64>) -> Break {
@@ -71,13 +71,8 @@ impl Break {
     }
 }
 
-/// What the uncancelled segmentation descriptors hold, in order.
-fn segments(descriptors: &[Descriptor]) -> impl Iterator<Item = &Segment> {
-    let bodies = descriptors.iter().map(|descriptor| &descriptor.body);
-    bodies.filter_map(|body| match body {
-        Body::Segmentation(segmentation) => segmentation.segment.as_ref(),
-        _ => None,
-    })
+fn opens(segment: &&Segment) -> bool {
+    OPENING_TYPES.contains(&segment.segmentation_type_id)
 }
 
 impl Reading for Break {

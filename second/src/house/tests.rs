@@ -1,6 +1,7 @@
 //! Facts about the house answers, and the small tools that they share.
 
 mod breaks;
+mod dash_durations;
 mod dvbs;
 mod labels;
 mod samples;

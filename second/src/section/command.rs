@@ -77,7 +77,7 @@ impl Command {
                 to.number("identifier", 32, command.identifier);
                 to.bytes("private_byte", &command.private_bytes);
             }),
-            Command::Unknown(bytes) => to.bytes("unknown command", bytes),
+            Command::Unknown(bytes) => to.bytes("command_byte", bytes),
         }
     }
 }

@@ -1,6 +1,7 @@
 //! House answers of random sections: the second program alone, so no archive is needed.
 //! Every answer is what the typed readings tell, and related sections have the same.
 
+mod mixed;
 mod pairs;
 mod readings;
 

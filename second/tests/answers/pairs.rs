@@ -24,6 +24,7 @@ fn all_answers(section: &[u8]) -> Vec<Answer> {
     let section = &Apart::of(section);
     let mut answers = vec![
         flat(section.break_answer()),
+        flat(section.dash_duration()),
         flat(section.effective_time()),
         flat(section.dvb()),
         flat_bytes(section.bill_label(b"a house name").bytes()),

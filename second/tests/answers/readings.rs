@@ -3,7 +3,7 @@
 use crate::built::{any_section, cue, unsealed_section, with_crc, Size};
 use crate::counts::Counts;
 use crate::random;
-use second::house::{Break, Dvb, EffectiveTime, Label};
+use second::house::{Break, DashDuration, Dvb, EffectiveTime, Label};
 use second::reading::{Command, Descriptor, Mode, Segmentation, Time};
 use second::refusal::SEALED;
 use second::section::Apart;
@@ -33,21 +33,33 @@ fn told_break(section: &Apart, command: &Command) -> Break {
             insert.break_duration.map(|duration| duration.duration)
         }
         Command::TimeSignal(_) => {
-            let all = segmentations(section);
-            let opening = |type_id| matches!(type_id, 34 | 48 | 50 | 52 | 54);
-            if !all.iter().any(|(_, it)| opening(it.segmentation_type_id)) {
+            let mut opening = segmentations(section);
+            opening.retain(|(_, it)| matches!(it.segmentation_type_id, 34 | 48 | 50 | 52 | 54));
+            if opening.is_empty() {
                 return Break::None;
             }
-            let mut longest = None;
-            for (_, segmentation) in all {
-                // None is less than any duration.
-                longest = longest.max(segmentation.segmentation_duration);
-            }
-            longest
+            longest(&opening)
         }
         _ => return Break::None,
     };
     ticks.map_or(Break::WithoutMeasure, |ticks| Break::Measured { ticks })
+}
+
+fn told_dash_duration(section: &Apart, command: &Command) -> DashDuration {
+    let ticks = match command {
+        Command::TimeSignal(_) => longest(&segmentations(section)),
+        _ => None,
+    };
+    ticks.map_or(DashDuration::None, |ticks| DashDuration::Lasts { ticks })
+}
+
+fn longest(segmentations: &[(u64, Segmentation)]) -> Option<u64> {
+    let mut longest = None;
+    for (_, segmentation) in segmentations {
+        // None is less than any duration.
+        longest = longest.max(segmentation.segmentation_duration);
+    }
+    longest
 }
 
 fn told_time(section: &Apart, command: &Command) -> EffectiveTime {
@@ -95,10 +107,12 @@ fn same_answers(counts: &mut Counts, section: &[u8]) {
         Ok(command) => {
             let opened = told_break(section, &command);
             assert_eq!(section.break_answer(), Ok(opened));
+            let lasts = told_dash_duration(section, &command);
+            assert_eq!(section.dash_duration(), Ok(lasts));
             assert_eq!(section.effective_time(), Ok(told_time(section, &command)));
             assert_eq!(section.dvb(), Ok(told_dvb(&command)));
             assert_eq!(label, told_label(section));
-            count(counts, opened, label);
+            count(counts, opened, lasts, label);
         }
         Err(refused) => {
             let opened = if refused == SEALED {
@@ -107,6 +121,7 @@ fn same_answers(counts: &mut Counts, section: &[u8]) {
                 Err(refused)
             };
             assert_eq!(section.break_answer(), opened);
+            assert_eq!(section.dash_duration(), Err(refused));
             assert_eq!(section.effective_time(), Err(refused));
             assert_eq!(section.dvb(), Err(refused));
             assert_eq!(label, Label::HouseName(HOUSE));
@@ -115,13 +130,18 @@ fn same_answers(counts: &mut Counts, section: &[u8]) {
     }
 }
 
-fn count(counts: &mut Counts, opened: Break, label: Label) {
+fn count(counts: &mut Counts, opened: Break, lasts: DashDuration, label: Label) {
     counts.count(match opened {
         Break::None => "no break",
         Break::Measured { ticks: 0 } => "a break of 0",
         Break::Measured { .. } => "a break",
         Break::WithoutMeasure => "a break without measure",
         Break::Unread => "unread",
+    });
+    counts.count(match lasts {
+        DashDuration::None => "no DASH duration",
+        DashDuration::Lasts { ticks: 0 } => "a DASH duration of 0",
+        DashDuration::Lasts { .. } => "a DASH duration",
     });
     counts.count(match label {
         Label::Upid { .. } => "a UPID for a label",
@@ -155,6 +175,9 @@ fn answers_are_what_the_readings_tell() {
         "a break",
         "a break without measure",
         "unread",
+        "no DASH duration",
+        "a DASH duration of 0",
+        "a DASH duration",
         "a UPID for a label",
         "the house name",
         "refused",

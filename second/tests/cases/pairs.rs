@@ -181,10 +181,11 @@ fn part(bytes: &[u8], offset: u64, length: u64) -> Vec<u64> {
 }
 
 /// The functions whose answers open with the number of a case, and how many cases there are.
-const CASES: [(&str, u64); 5] = [
+const CASES: [(&str, u64); 6] = [
     ("command", 8),
     ("known_descriptor", 6),
     ("break", 4),
+    ("dash_duration", 2),
     ("effective_time", 2),
     ("dvb", 2),
 ];

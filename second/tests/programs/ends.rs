@@ -14,13 +14,16 @@ fn tells(output: &Output) {
     assert!(told.split_whitespace().count() > 2, "{told}");
 }
 
+/// A full disk, and a file that is open for reading only.
+fn outputs_that_fail() -> [File; 2] {
+    let full = File::options().write(true).open("/dev/full").expect("full");
+    [full, File::open("/dev/null").expect("empty")]
+}
+
 /// A pipe that nobody reads any more: the program ends, by itself or by the system's signal.
 #[test]
 fn a_closed_output() {
-    let Some(mut program) = proved() else {
-        return;
-    };
-    let mut child = program.spawn().expect("the program starts");
+    let mut child = proved().spawn().expect("the program starts");
     drop(child.stdout.take());
     let mut to = child.stdin.take().expect("a pipe");
     // The program can end before all of it is read.
@@ -32,19 +35,26 @@ fn a_closed_output() {
     drop(to);
 }
 
-/// A full disk, and a file that is open for reading only.
 #[test]
 fn writes_that_fail() {
-    let full = File::options().write(true).open("/dev/full").expect("full");
-    let only_read = File::open("/dev/null").expect("empty");
-    for file in [full, only_read] {
-        let Some(mut program) = proved() else {
-            return;
-        };
+    for file in outputs_that_fail() {
         let day = File::open("../samples/day.txt").expect("the sample day");
-        let child = program.stdin(day).stdout(file).spawn();
+        let child = proved().stdin(day).stdout(file).spawn();
         let output = ended(child.expect("the program starts"));
         tells(&output);
+    }
+}
+
+/// The first of them ends the program, with much of the input unread and its end not in sight.
+#[test]
+fn the_first_write_that_fails() {
+    for file in outputs_that_fail() {
+        let child = proved().stdout(file).spawn();
+        let mut child = child.expect("the program starts");
+        let mut to = child.stdin.take().expect("a pipe");
+        let _ = to.write_all(&b"\n".repeat(1_000_000));
+        tells(&ended(child));
+        drop(to);
     }
 }
 
@@ -54,10 +64,7 @@ fn reads_that_fail() {
     let folder = File::open(".").expect("this folder");
     let only_written = File::options().write(true).open("/dev/null").expect("null");
     for file in [folder, only_written] {
-        let Some(mut program) = proved() else {
-            return;
-        };
-        let child = program.stdin(file).spawn();
+        let child = proved().stdin(file).spawn();
         let output = ended(child.expect("the program starts"));
         assert!(output.stdout.is_empty());
         tells(&output);

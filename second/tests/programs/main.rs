@@ -1,6 +1,7 @@
-//! Whole files through both programs, and how the proved program reads, writes and ends.
-//! Where it does not run, `compare` puts the same files through the archive's functions.
+//! Whole files through both programs, and how the proved program reads, writes and ends. It is a program
+//! for x86-64: on another machine it runs under the toolchain's emulator.
 
+mod arguments;
 mod ends;
 mod memory;
 mod pipes;

@@ -11,7 +11,7 @@ use std::thread;
 /// How far the most memory may lie above that of a small input, in kilobytes.
 const SLACK: u64 = 256;
 
-/// The most memory that was in use since the start, in kilobytes.
+/// The most memory that was in use since the start, in kilobytes; an emulator's is counted with its program's.
 fn peak(child: &Child) -> u64 {
     let status = read_to_string(format!("/proc/{}/status", child.id())).expect("it runs");
     let line = status.lines().find(|line| line.starts_with("VmHWM:"));
@@ -47,10 +47,7 @@ fn a_large_input_takes_no_more_than_a_small_one() {
     let small: Vec<u8> = small.flat_map(|file| file.input.clone()).collect();
     let large: Vec<u8> = files.iter().flat_map(|file| file.input.clone()).collect();
     assert!(large.len() > 10 * small.len());
-    let Some(program) = proved() else {
-        return;
-    };
-    for (name, program) in [("proved", program), ("second", second())] {
+    for (name, program) in [("proved", proved()), ("second", second())] {
         let (first, then) = peaks(program, &small, &large);
         println!("{name}: {first} kB, then {then} kB");
         assert!(then <= first + SLACK, "{name}: {first} kB, then {then} kB");

@@ -29,10 +29,7 @@ fn pieces_with_pauses() {
     let input = input_of(&mut random, 60);
     let parts = cut_at_random(&mut random, &input, 400);
     let pause = Duration::from_millis(4);
-    let Some(program) = proved() else {
-        return;
-    };
-    let by_proved = written(in_pieces(program, &parts, pause));
+    let by_proved = written(in_pieces(proved(), &parts, pause));
     let by_second = written(in_pieces(second(), &parts, pause));
     same_lines("pieces with pauses", &input, &by_second, &by_proved);
     assert_eq!(by_second, answers(&input).into_bytes());
@@ -42,19 +39,14 @@ fn pieces_with_pauses() {
 fn the_sample_day_byte_by_byte() {
     let input = day::file();
     let bytes: Vec<&[u8]> = input.as_bytes().chunks(1).collect();
-    let Some(program) = proved() else {
-        return;
-    };
-    let answered = written(in_pieces(program, &bytes, Duration::from_micros(50)));
+    let answered = written(in_pieces(proved(), &bytes, Duration::from_micros(50)));
     assert_eq!(answered, answers(input.as_bytes()).into_bytes());
 }
 
 /// A line is answered before the next one comes.
 #[test]
 fn a_conversation() {
-    let Some(mut program) = proved() else {
-        return;
-    };
+    let mut program = proved();
     let mut child = program.spawn().expect("the program starts");
     let mut to = child.stdin.take().expect("a pipe");
     let from = BufReader::new(child.stdout.take().expect("a pipe"));

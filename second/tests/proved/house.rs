@@ -3,6 +3,8 @@
 #[link(name = "timpanimist", kind = "static")]
 extern "C" {
     fn timpanimist_break(section: *const u8, len: usize, out: *mut u64, room: usize) -> u64;
+    fn timpanimist_dash_duration(section: *const u8, len: usize, out: *mut u64, room: usize)
+        -> u64;
     fn timpanimist_effective_time(
         section: *const u8,
         len: usize,
@@ -26,6 +28,11 @@ extern "C" {
 pub fn break_answer(section: &mut [u8], out: &mut [u64]) -> u64 {
     let (from, to) = (section.as_mut_ptr(), out.as_mut_ptr());
     unsafe { timpanimist_break(from, section.len(), to, out.len()) }
+}
+
+pub fn dash_duration(section: &mut [u8], out: &mut [u64]) -> u64 {
+    let (from, to) = (section.as_mut_ptr(), out.as_mut_ptr());
+    unsafe { timpanimist_dash_duration(from, section.len(), to, out.len()) }
 }
 
 pub fn effective_time(section: &mut [u8], out: &mut [u64]) -> u64 {

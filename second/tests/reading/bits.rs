@@ -109,8 +109,8 @@ fn is_unsaid(place: &Place) -> bool {
         "tier",
         "alignment_stuffing",
     ];
-    let of_an_unknown = matches!(place.name, "unknown command" | "private_byte")
-        && place.group != "private_command()";
+    let of_an_unknown =
+        matches!(place.name, "command_byte" | "private_byte") && place.group != "private_command()";
     place.name == "reserved" || HEADER.contains(&place.name) || of_an_unknown
 }
 

@@ -92,6 +92,7 @@ fn answers_follow_the_table() {
         table.holds("command", section.command());
         table.holds("descriptor count", section.descriptor_count());
         table.holds("break", section.break_answer());
+        table.holds("DASH duration", section.dash_duration());
         table.holds("effective time", section.effective_time());
         table.holds("DVB", section.dvb());
         table.holds("label", Ok(section.bill_label(b"a house name")));

@@ -9,7 +9,7 @@ use super::Bench;
 use crate::proved::house as proved;
 use second::bits::read_field;
 use second::hex::to_hex;
-use second::house::Label;
+use second::house::{Break, DashDuration, Label};
 use second::reading::{entries, numbers, Entry};
 use second::refusal::{self, ROOM, SEALED, SHORT};
 use second::section::{Apart, Inside};
@@ -37,6 +37,14 @@ pub static BREAK: HouseQuestion = HouseQuestion {
     sealed: false,
 };
 
+pub static DASH_DURATION: HouseQuestion = HouseQuestion {
+    function: "dash_duration",
+    word: "dash-duration",
+    second: |section| section.dash_duration().map(|answer| entries(&answer)),
+    proved: proved::dash_duration,
+    sealed: true,
+};
+
 pub static EFFECTIVE_TIME: HouseQuestion = HouseQuestion {
     function: "effective_time",
     word: "effective-time",
@@ -53,17 +61,24 @@ pub static DVB: HouseQuestion = HouseQuestion {
     sealed: true,
 };
 
-pub static HOUSE_QUESTIONS: [&HouseQuestion; 3] = [&BREAK, &EFFECTIVE_TIME, &DVB];
+pub static HOUSE_QUESTIONS: [&HouseQuestion; 4] = [&BREAK, &DASH_DURATION, &EFFECTIVE_TIME, &DVB];
 
-/// What can be answered where nothing is refused. A break of 0 is counted apart, and so is a time
-/// that wraps; what is unread and the house name, by why they are answered.
-const ANSWERS: [&str; 14] = [
+/// What can be answered where nothing is refused. A duration of 0 is counted apart, and so are a break
+/// and the longest duration where they are not the same, and a time that wraps; what is unread and
+/// the house name, by why they are answered.
+const ANSWERS: [&str; 20] = [
     "break: none",
     "break: measured",
     "break: measured, 0",
+    "break: measured, beside a longer duration",
     "break: without measure",
+    "break: without measure, beside a duration",
     "break: unread, a command",
     "break: unread, sealed",
+    "DASH duration: none",
+    "DASH duration: given",
+    "DASH duration: given, 0",
+    "DASH duration: given, no break",
     "effective time: none",
     "effective time: given",
     "effective time: given, wrapped",
@@ -180,19 +195,35 @@ fn refused(function: &str, row: u8) -> String {
 /// The name under which an answer is counted.
 fn named(question: &HouseQuestion, section: &Apart, listed: &Listed) -> String {
     match listed.as_deref() {
-        Ok([Entry::Case("break", "unread", _)]) if is_sealed(section) => {
-            "break: unread, sealed".to_string()
-        }
-        Ok([Entry::Case("break", "unread", _)]) => "break: unread, a command".to_string(),
-        Ok([Entry::Case("break", _, _), Entry::Value(_, 0)]) => "break: measured, 0".to_string(),
-        Ok([Entry::Case("effective time", _, _), Entry::Value(_, ticks)])
-            if *ticks < pts_adjustment(section.bytes) =>
-        {
-            "effective time: given, wrapped".to_string()
-        }
-        Ok([Entry::Case(what, case, _), ..]) => format!("{what}: {case}"),
-        Ok(other) => panic!("every house answer has cases: {other:?}"),
+        Ok(list) => named_answer(section, list),
         Err(row) => refused(question.function, *row),
+    }
+}
+
+fn named_answer(section: &Apart, list: &[Entry]) -> String {
+    let (what, case, ticks) = match list {
+        [Entry::Case(what, case, _)] => (*what, *case, None),
+        [Entry::Case(what, case, _), Entry::Value(_, ticks)] => (*what, *case, Some(*ticks)),
+        other => panic!("every house answer has cases: {other:?}"),
+    };
+    let apart = match (what, case) {
+        ("break", "unread") if is_sealed(section) => ", sealed",
+        ("break", "unread") => ", a command",
+        ("break", "measured") | ("DASH duration", "given") if ticks == Some(0) => ", 0",
+        ("break", "measured") if longest(section) > ticks => ", beside a longer duration",
+        ("break", "without measure") if longest(section).is_some() => ", beside a duration",
+        ("DASH duration", "given") if section.break_answer() == Ok(Break::None) => ", no break",
+        ("effective time", "given") if ticks < Some(pts_adjustment(section.bytes)) => ", wrapped",
+        _ => "",
+    };
+    format!("{what}: {case}{apart}")
+}
+
+/// The longest duration of all, which is the DASH event's.
+fn longest(section: &Apart) -> Option<u64> {
+    match section.dash_duration() {
+        Ok(DashDuration::Lasts { ticks }) => Some(ticks),
+        _ => None,
     }
 }
 

@@ -3,7 +3,6 @@
 use std::io::{self, Read, Write};
 use std::path::{Path, PathBuf};
 use std::process::{Child, ChildStdin, Command, Output, Stdio};
-use std::sync::Once;
 use std::thread;
 use std::time::{Duration, Instant};
 
@@ -17,26 +16,14 @@ pub fn second() -> Command {
     piped(command)
 }
 
-/// The proved program, which TIMPANIMIST_TALLY or else `../target/bin/tally` names. It is for x86-64
-/// Linux: elsewhere there is none, and that is said.
-pub fn proved() -> Option<Command> {
-    if !cfg!(all(target_arch = "x86_64", target_os = "linux")) {
-        let words =
-            "skipped: the proved program is for x86-64 Linux, and this machine is another; \
-                     the comparison puts the same files through the archive's functions";
-        static SAID: Once = Once::new();
-        SAID.call_once(|| writeln!(io::stderr(), "{words}").expect("standard error"));
-        return None;
-    }
-    let named = std::env::var_os("TIMPANIMIST_TALLY").map(PathBuf::from);
+/// The proved program, which TIMPANIMIST_TALLY names, or else `../tools/tally`, which runs it on any
+/// machine that has the toolchain.
+pub fn proved() -> Command {
     let package = Path::new(env!("CARGO_MANIFEST_DIR"));
-    let program = package.join(named.unwrap_or_else(|| "../target/bin/tally".into()));
-    assert!(
-        program.is_file(),
-        "the proved program is not at {}: make it with `rt check tally`, or name it in TIMPANIMIST_TALLY",
-        program.display()
-    );
-    Some(piped(Command::new(program)))
+    let named = std::env::var_os("TIMPANIMIST_TALLY").map(PathBuf::from);
+    let program = package.join(named.unwrap_or_else(|| "../tools/tally".into()));
+    assert!(program.is_file(), "there is no {}", program.display());
+    piped(Command::new(program))
 }
 
 fn piped(mut command: Command) -> Command {

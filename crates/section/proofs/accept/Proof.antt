@@ -99,7 +99,7 @@ returns-6 c =
     decide s 5 (miss (le-ltb (length s) 20 (c .before .before .before .before .before .before .before .before .before .if1 .left))
     (miss (table s hs (c .before .before .before .before .before .before .before .if2 .left))
     (miss (syntax-clear s hs (c .before .before .before .before .before .if3 .left))
-    (miss (size s hs (omega (arith, given-length (c .before .before .before .before))) (omega (arith, given-length (c .before .before .before .before))))
+    (miss (size s (omega (arith, given-length (c .before .before .before .before))) (omega (arith, given-length (c .before .before .before .before))))
     (hit (ap not (ne-eqb (crc32 s) 0 (λ q. c .if6 .taken (c .before .crc .ensures ∙ q))))))))) refl
 
 shared-slice-read-if7 : tie.Need-shared-slice-read-if7
@@ -113,7 +113,7 @@ returns-7 c =
     decide s 6 (miss (le-ltb (length s) 20 (c .before .before .before .before .before .before .before .before .before .before .before .if1 .left))
     (miss (table s hs (c .before .before .before .before .before .before .before .before .before .if2 .left))
     (miss (syntax-clear s hs (c .before .before .before .before .before .before .before .if3 .left))
-    (miss (size s hs (omega (arith, given-length (c .before .before .before .before .before .before))) (omega (arith, given-length (c .before .before .before .before .before .before))))
+    (miss (size s (omega (arith, given-length (c .before .before .before .before .before .before))) (omega (arith, given-length (c .before .before .before .before .before .before))))
     (miss (ap (λ (x : ℕ). not (eqb x 0)) (sym (c .before .before .before .crc .ensures) ∙ c .before .before .if6 .left))
     (hit (other-version s hs (c .if7 .taken)))))))) refl
 
@@ -134,7 +134,7 @@ returns-8 c =
     decide s (came .0) (miss (le-ltb (length s) 20 (c .before .before .before .before .before .before .before .before .before .before .before .before .before .before .if1 .left))
     (miss (table s hs (c .before .before .before .before .before .before .before .before .before .before .before .before .if2 .left))
     (miss (syntax-clear s hs (c .before .before .before .before .before .before .before .before .before .before .if3 .left))
-    (miss (size s hs (omega (arith, given-length (c .before .before .before .before .before .before .before .before .before))) (omega (arith, given-length (c .before .before .before .before .before .before .before .before .before))))
+    (miss (size s (omega (arith, given-length (c .before .before .before .before .before .before .before .before .before))) (omega (arith, given-length (c .before .before .before .before .before .before .before .before .before))))
     (miss (ap (λ (x : ℕ). not (eqb x 0)) (sym (c .before .before .before .before .before .before .crc .ensures) ∙ c .before .before .before .before .before .if6 .left))
     (miss (version-0 s hs (c .before .before .before .if7 .left))
     (miss (ap (λ (t : Bool). t && ltb (length s) 24) (clear s hs (c .before .if8 .taken)))
@@ -148,7 +148,7 @@ returns-9 c =
     decide s 7 (miss (le-ltb (length s) 20 (c .before .before .before .before .before .before .before .before .before .before .before .before .before .before .if1 .left))
     (miss (table s hs (c .before .before .before .before .before .before .before .before .before .before .before .before .if2 .left))
     (miss (syntax-clear s hs (c .before .before .before .before .before .before .before .before .before .before .if3 .left))
-    (miss (size s hs (omega (arith, given-length (c .before .before .before .before .before .before .before .before .before))) (omega (arith, given-length (c .before .before .before .before .before .before .before .before .before))))
+    (miss (size s (omega (arith, given-length (c .before .before .before .before .before .before .before .before .before))) (omega (arith, given-length (c .before .before .before .before .before .before .before .before .before))))
     (miss (ap (λ (x : ℕ). not (eqb x 0)) (sym (c .before .before .before .before .before .before .crc .ensures) ∙ c .before .before .before .before .before .if6 .left))
     (miss (version-0 s hs (c .before .before .before .if7 .left))
     (hit (ap₂ (λ (t u : Bool). t && u) (sealed s hs (c .before .if8 .left)) (lt-ltb (length s) 24 (c .if9 .taken)))))))))) refl
@@ -163,7 +163,7 @@ returns-10 c =
     decide s (came .0) (miss (le-ltb (length s) 20 (c .before .before .before .before .before .before .before .before .before .before .before .before .before .before .if1 .left))
     (miss (table s hs (c .before .before .before .before .before .before .before .before .before .before .before .before .if2 .left))
     (miss (syntax-clear s hs (c .before .before .before .before .before .before .before .before .before .before .if3 .left))
-    (miss (size s hs (omega (arith, given-length (c .before .before .before .before .before .before .before .before .before))) (omega (arith, given-length (c .before .before .before .before .before .before .before .before .before))))
+    (miss (size s (omega (arith, given-length (c .before .before .before .before .before .before .before .before .before))) (omega (arith, given-length (c .before .before .before .before .before .before .before .before .before))))
     (miss (ap (λ (x : ℕ). not (eqb x 0)) (sym (c .before .before .before .before .before .before .crc .ensures) ∙ c .before .before .before .before .before .if6 .left))
     (miss (version-0 s hs (c .before .before .before .if7 .left))
     (miss (ap₂ (λ (t u : Bool). t && u) (sealed s hs (c .before .if8 .left)) (le-ltb (length s) 24 (c .if9 .left)))

@@ -5,7 +5,7 @@ use mathlib.Core.Bool.{Bool, cond}
 use native.Mathlib.Omega.{arith}
 use borrow.Author.Needs.{needs}
 use borrow.Author.Tests.{le-leb, lt-leb}
-use Rattle.segmentation_reading.specs.declared.answers.Duration.{Duration}
+use Rattle.signals.specs.declared.Measure.{Measure}
 use Rattle.signals.specs.Signals.{longer}
 use Rattle.signals.proofs.longer.Statement.{statement}
 use Rattle.signals.proofs.longer.Tie as tie
@@ -35,7 +35,7 @@ returns-3 c =
     let x = b .before .before .before .a .given in
     sym
     (ap₂ longer (x .1) (y .1)
-    ∙ ap (λ (t : Bool). cond t (Duration.Present (x .0 .0)) (Duration.Present (y .0 .0))) (le-leb (y .0 .0 .0) (x .0 .0 .0) (c .if1 .taken)))
+    ∙ ap (λ (t : Bool). cond t (Measure.Present (x .0 .0) (x .0 .1 .0)) (Measure.Present (y .0 .0) (y .0 .1 .0))) (le-leb (y .0 .1 .0 .0) (x .0 .1 .0 .0) (c .if1 .taken)))
 
 returns-4 : tie.Need-returns-4
 returns-4 c =
@@ -44,7 +44,7 @@ returns-4 c =
     let x = b .before .before .before .a .given in
     sym
     (ap₂ longer (x .1) (y .1)
-    ∙ ap (λ (t : Bool). cond t (Duration.Present (x .0 .0)) (Duration.Present (y .0 .0))) (lt-leb (y .0 .0 .0) (x .0 .0 .0) (omega (arith, c .if1 .left))))
+    ∙ ap (λ (t : Bool). cond t (Measure.Present (x .0 .0) (x .0 .1 .0)) (Measure.Present (y .0 .0) (y .0 .1 .0))) (lt-leb (y .0 .1 .0 .0) (x .0 .1 .0 .0) (omega (arith, c .if1 .left))))
 
 pub longer-spec : {M : Type 1} → statement M
 longer-spec = tie.close (tie.spec enum-known-a enum-told returns enum-known-b enum-told-2 returns-2 returns-3 returns-4)

@@ -12,6 +12,15 @@ Inv-loop input₀ out₀ carry₀ held₀ turns₀ input out carry held turns = 
 abbrev μ-loop : tie.MeasureT-loop
 μ-loop input₀ out₀ carry₀ held₀ turns₀ input out carry held turns = turns
 
+arg-count-requires : tie.Need-arg-count-requires Inv-loop μ-loop
+arg-count-requires c κs = search needs
+
+usage-requires : tie.Need-usage-requires Inv-loop μ-loop
+usage-requires c κs = search needs
+
+returns : tie.Need-returns Inv-loop μ-loop
+returns c = search needs
+
 large-buffer-requires : tie.Need-large-buffer-requires Inv-loop μ-loop
 large-buffer-requires c κs = search needs
 
@@ -24,17 +33,23 @@ loop-holds c = search needs
 sub-turns : tie.Need-sub-turns Inv-loop μ-loop
 sub-turns c = search needs
 
-slice-aggregate-some : tie.Need-slice-aggregate-some Inv-loop μ-loop
-slice-aggregate-some c = search needs
+slice-aggregate-read : tie.Need-slice-aggregate-read Inv-loop μ-loop
+slice-aggregate-read c = search needs
 
-slice-aggregate-some-2 : tie.Need-slice-aggregate-some-2 Inv-loop μ-loop
-slice-aggregate-some-2 c = search needs
+read-requires : tie.Need-read-requires Inv-loop μ-loop
+read-requires c κs = search needs
 
-slice-aggregate-some-3 : tie.Need-slice-aggregate-some-3 Inv-loop μ-loop
-slice-aggregate-some-3 c = search needs
+slice-aggregate-came : tie.Need-slice-aggregate-came Inv-loop μ-loop
+slice-aggregate-came c = search needs
 
-some-requires : tie.Need-some-requires Inv-loop μ-loop
-some-requires c κs = search needs
+slice-aggregate-came-2 : tie.Need-slice-aggregate-came-2 Inv-loop μ-loop
+slice-aggregate-came-2 c = search needs
+
+slice-aggregate-came-3 : tie.Need-slice-aggregate-came-3 Inv-loop μ-loop
+slice-aggregate-came-3 c = search needs
+
+came-requires : tie.Need-came-requires Inv-loop μ-loop
+came-requires c κs = search needs
 
 enum-known-next : tie.Need-enum-known-next Inv-loop μ-loop
 enum-known-next c = search needs
@@ -48,11 +63,17 @@ loop-again c = search needs
 enum-told : tie.Need-enum-told Inv-loop μ-loop
 enum-told c = search needs
 
-returns : tie.Need-returns Inv-loop μ-loop
-returns c = search needs
-
 returns-2 : tie.Need-returns-2 Inv-loop μ-loop
 returns-2 c = search needs
+
+enum-told-2 : tie.Need-enum-told-2 Inv-loop μ-loop
+enum-told-2 c = search needs
+
+returns-3 : tie.Need-returns-3 Inv-loop μ-loop
+returns-3 c = search needs
+
+returns-4 : tie.Need-returns-4 Inv-loop μ-loop
+returns-4 c = search needs
 
 pub main-spec : {M : Type 1} → statement M
 main-spec =
@@ -60,17 +81,24 @@ main-spec =
     (tie.spec
     Inv-loop
     μ-loop
+    arg-count-requires
+    usage-requires
+    returns
     large-buffer-requires
     large-buffer-requires-2
     loop-holds
     sub-turns
-    slice-aggregate-some
-    slice-aggregate-some-2
-    slice-aggregate-some-3
-    some-requires
+    slice-aggregate-read
+    read-requires
+    slice-aggregate-came
+    slice-aggregate-came-2
+    slice-aggregate-came-3
+    came-requires
     enum-known-next
     loop-less
     loop-again
     enum-told
-    returns
-    returns-2)
+    returns-2
+    enum-told-2
+    returns-3
+    returns-4)

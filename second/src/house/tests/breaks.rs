@@ -50,26 +50,55 @@ fn all_forty_bits_measure() {
     is(&with(0x05, &command, &[]), measured((1 << 33) - 1));
 }
 
+/// The longest of those that open the break, in whatever order they stand.
 #[test]
-fn the_longest_of_all_durations_measures() {
-    let opening = |duration| known(&segment(0x34, duration, ""));
-    let other = |duration| known(&segment(0x10, duration, ""));
-    is(&signal(&[opening(Some(5)), opening(Some(9))]), measured(9));
-    is(&signal(&[opening(Some(9)), opening(Some(5))]), measured(9));
-    is(&signal(&[opening(Some(5)), other(Some(9))]), measured(9));
-    is(&signal(&[other(Some(9)), opening(None)]), measured(9));
-    is(&signal(&[opening(None), other(Some(0))]), measured(0));
-    is(
-        &signal(&[opening(None), other(None)]),
-        Break::WithoutMeasure,
-    );
-    is(&signal(&[other(Some(9)), other(None)]), Break::None);
+fn the_longest_opening_one_measures() {
+    let opening = |type_id, duration| known(&segment(type_id, duration, ""));
+    let (short, long) = (|| opening(0x34, Some(5)), || opening(0x22, Some(9)));
+    is(&signal(&[short(), long()]), measured(9));
+    is(&signal(&[long(), short()]), measured(9));
+    is(&signal(&[long(), long(), short()]), measured(9));
+    let without = || opening(0x36, None);
+    is(&signal(&[without(), short(), without()]), measured(5));
+    let zero = || opening(0x30, Some(0));
+    is(&signal(&[without(), zero()]), measured(0));
+    is(&signal(&[without(), without()]), Break::WithoutMeasure);
     // Longest as numbers of 40 bits, not of 32.
-    let (short, long) = ((1 << 32) - 1, 1 << 32);
-    is(
-        &signal(&[opening(Some(short)), other(Some(long)), opening(Some(3))]),
-        measured(long),
-    );
+    let most = || opening(0x32, Some((1 << 32) - 1));
+    let more = || opening(0x34, Some(1 << 32));
+    is(&signal(&[most(), more(), short()]), measured(1 << 32));
+}
+
+/// The customer's cue: a program of two hours starts beside a placement opportunity of a minute.
+#[test]
+fn the_length_of_a_program_is_not_billed() {
+    let program = || known(&segment(0x10, Some(2 * 3_600 * 90_000), ""));
+    let opportunity = |duration| known(&segment(0x34, duration, ""));
+    let minute = || opportunity(Some(60 * 90_000));
+    is(&signal(&[program(), minute()]), measured(5_400_000));
+    is(&signal(&[minute(), program()]), measured(5_400_000));
+    let zero = opportunity(Some(0));
+    is(&signal(&[program(), zero]), measured(0));
+    let without = || opportunity(None);
+    is(&signal(&[program(), without()]), Break::WithoutMeasure);
+    is(&signal(&[without(), program()]), Break::WithoutMeasure);
+    is(&signal(&[program()]), Break::None);
+}
+
+/// Of all 251 types that open no break, none measures one.
+#[test]
+fn no_other_type_measures() {
+    let opening = |duration| known(&segment(0x36, duration, ""));
+    for type_id in 0..=255 {
+        if [0x22, 0x30, 0x32, 0x34, 0x36].contains(&type_id) {
+            continue;
+        }
+        let other = || known(&segment(type_id, Some(99), ""));
+        is(&signal(&[other(), opening(Some(7)), other()]), measured(7));
+        is(&signal(&[other(), opening(Some(0))]), measured(0));
+        is(&signal(&[other(), opening(None)]), Break::WithoutMeasure);
+        is(&signal(&[other(), other()]), Break::None);
+    }
 }
 
 #[test]

@@ -18,6 +18,8 @@ fn the_cue_of_004() {
     let ticks = 18_132_042;
     assert_eq!(break_answer(&section), Ok(Break::Measured { ticks }));
     assert_eq!(ticks_to_millis(ticks), 201_467);
+    let lasts = DashDuration::Lasts { ticks };
+    assert_eq!(dash_duration(&section), Ok(lasts));
     let at = EffectiveTime::At { ticks: 3_150_057 };
     assert_eq!(effective_time(&section), Ok(at));
     assert_eq!(dvb(&section), Ok(Dvb::Yes));
@@ -39,6 +41,7 @@ fn the_restored_first_text_of_003() {
     let ticks = 2_160_000;
     assert_eq!(break_answer(&section), Ok(Break::Measured { ticks }));
     assert_eq!(ticks_to_millis(ticks), 24_000);
+    assert_eq!(dash_duration(&section), Ok(DashDuration::None));
     assert_eq!(effective_time(&section), Ok(EffectiveTime::None));
     assert_eq!(dvb(&section), Ok(Dvb::Yes));
     assert_eq!(bill_label(&section, HOUSE), Label::HouseName(HOUSE));
@@ -55,6 +58,7 @@ fn the_sections_of_002_clauses_14_3_14_5_and_14_7() {
     for (text, ticks) in samples {
         let section = sample(text);
         assert_eq!(break_answer(&section), Ok(Break::None));
+        assert_eq!(dash_duration(&section), Ok(DashDuration::None));
         let at = EffectiveTime::At { ticks };
         assert_eq!(effective_time(&section), Ok(at));
         assert_eq!(dvb(&section), Ok(Dvb::Yes));

@@ -1,7 +1,8 @@
 //! Lists and byte strings of every length, and every segmentation type with bytes behind it.
 
 use crate::support::built::{
-    section, Built, Command, Descriptor, Segmentation, Size, Writer, SUB_SEGMENT_TYPES,
+    any_duration, section, Built, Command, Descriptor, Segmentation, Size, Writer,
+    SUB_SEGMENT_TYPES,
 };
 use crate::support::{Bench, Random};
 use second::refusal::DESCRIPTOR;
@@ -28,13 +29,13 @@ fn expect(bench: &mut Bench, descriptor: Writer, row: u8) {
 }
 
 fn upids(bench: &mut Bench) {
-    for duration in [false, true] {
+    for timed in [false, true] {
         for behind in [0, 2] {
             for components in [None, Some(0), Some(1), Some(20), Some(38)] {
                 let mut chosen = Segmentation {
                     cancelled: false,
                     components,
-                    duration,
+                    duration: timed.then(|| bench.random.field(40)),
                     upid: 0,
                     type_id: 0x34,
                     behind,
@@ -56,7 +57,7 @@ fn types_with_bytes_behind(bench: &mut Bench) {
                 let chosen = Segmentation {
                     cancelled: false,
                     components: [None, Some(2)][bench.random.within(0..=1)],
-                    duration: bench.random.once_in(2),
+                    duration: any_duration(&mut bench.random),
                     upid,
                     type_id,
                     behind,

@@ -1,13 +1,12 @@
-//! What opens a break and what measures it: every type, durations at their edges, durations in every
-//! place, and descriptors that are cancelled or only look like one.
+//! What opens a break, what measures it and how long the DASH event lasts: every type, durations at
+//! their edges, durations in every place, and descriptors that are cancelled or only look like one.
 
-use crate::support::built::{section, Command, Descriptor, Segmentation, Size, Writer};
-use crate::support::house::BREAK;
+use crate::support::built::{
+    section, Command, Descriptor, Segmentation, Size, Writer, OPENING_TYPES,
+};
+use crate::support::house::{BREAK, DASH_DURATION};
 use crate::support::Bench;
 use second::section::Apart;
-
-/// The types that open a break (01, after 003).
-const OPENING_TYPES: [u8; 5] = [0x22, 0x30, 0x32, 0x34, 0x36];
 
 /// Durations around the edges of 32, 33 and 40 bits.
 const TICKS: [u64; 10] = [
@@ -26,6 +25,7 @@ const TICKS: [u64; 10] = [
 pub fn all(bench: &mut Bench) {
     for _ in 0..4 {
         every_type(bench);
+        beside_every_type(bench);
         longest_of_three(bench);
     }
     under_other_commands(bench);
@@ -55,14 +55,17 @@ fn known(bench: &mut Bench, type_id: u8, duration: Option<u64>) -> Writer {
     Descriptor::known(2, segment(bench, type_id, duration))
 }
 
-/// The break of a time signal with these descriptors.
-fn signal(bench: &mut Bench, list: Vec<Writer>) -> Vec<u64> {
+/// A time signal with these descriptors has these numbers for its break and for its DASH duration.
+fn signal(bench: &mut Bench, list: Vec<Writer>, opened: &[u64], lasts: &[u64]) {
     let random = &mut bench.random;
     let command = Command::time_signal(random);
     let built = section(random, command, list, &[]);
     bench.ask_house(&built.bytes);
-    let answer = bench.house_answer(&BREAK, &Apart::of(&built.bytes));
-    answer.expect("an accepted section")
+    let section = Apart::of(&built.bytes);
+    let answer = bench.house_answer(&BREAK, &section);
+    assert_eq!(answer, Ok(opened.to_vec()));
+    let answer = bench.house_answer(&DASH_DURATION, &section);
+    assert_eq!(answer, Ok(lasts.to_vec()));
 }
 
 /// Alone, with a duration and without, and where it is unknown or cancelled.
@@ -71,41 +74,75 @@ fn every_type(bench: &mut Bench) {
         let opens = OPENING_TYPES.contains(&type_id);
         let ticks = bench.random.one_of(&TICKS);
         let timed = known(bench, type_id, Some(ticks));
-        let expected = if opens { vec![1, ticks] } else { vec![0] };
-        assert_eq!(signal(bench, vec![timed]), expected);
+        let opened = if opens { vec![1, ticks] } else { vec![0] };
+        signal(bench, vec![timed], &opened, &[1, ticks]);
         let untimed = known(bench, type_id, None);
-        let expected = if opens { 2 } else { 0 };
-        assert_eq!(signal(bench, vec![untimed]), [expected]);
+        let opened = if opens { [2] } else { [0] };
+        signal(bench, vec![untimed], &opened, &[0]);
         let body = segment(bench, type_id, Some(ticks));
         let foreign = Descriptor::whole(2, 0x4355_4548, body.clone());
-        assert_eq!(signal(bench, vec![foreign]), [0]);
+        signal(bench, vec![foreign], &[0], &[0]);
         let another_tag = Descriptor::whole(5, 0x4355_4549, body);
-        assert_eq!(signal(bench, vec![another_tag]), [0]);
+        signal(bench, vec![another_tag], &[0], &[0]);
     }
 }
 
-/// One opens the break, others stand around it: the longest duration of the known ones measures it.
+/// One that opens a break, before and behind one of each type that opens none.
+fn beside_every_type(bench: &mut Bench) {
+    for type_id in 0..=255 {
+        if OPENING_TYPES.contains(&type_id) {
+            continue;
+        }
+        let duration = bench.random.one_of(&durations());
+        let ticks = bench.random.one_of(&TICKS);
+        let opening = bench.random.one_of(&OPENING_TYPES);
+        let mut list = vec![
+            known(bench, opening, duration),
+            known(bench, type_id, Some(ticks)),
+        ];
+        let opened = duration.map_or(vec![2], |ticks| vec![1, ticks]);
+        let lasts = [1, ticks.max(duration.unwrap_or(0))];
+        signal(bench, list.clone(), &opened, &lasts);
+        list.reverse();
+        signal(bench, list, &opened, &lasts);
+    }
+}
+
+/// Three of which any may open a break: the longest of those that do measures it, the longest of all
+/// three is the DASH event's.
 fn longest_of_three(bench: &mut Bench) {
-    for opening_at in 0..3 {
+    for openers in 0..8 {
         for first in durations() {
             for second in durations() {
                 let third = bench.random.one_of(&durations());
-                let all = [first, second, third];
-                let mut list = Vec::new();
-                for (at, duration) in all.into_iter().enumerate() {
-                    let opening = bench.random.one_of(&OPENING_TYPES);
-                    let type_id = if at == opening_at { opening } else { 0x10 };
-                    list.push(known(bench, type_id, duration));
-                    if bench.random.once_in(3) {
-                        list.push(longer_that_counts_for_nothing(bench));
-                    }
-                }
-                let longest = all.into_iter().flatten().max();
-                let expected = longest.map_or(vec![2], |ticks| vec![1, ticks]);
-                assert_eq!(signal(bench, list), expected);
+                three(bench, openers, [first, second, third]);
             }
         }
     }
+}
+
+/// Bit n of `openers` says whether the one at n opens a break.
+fn three(bench: &mut Bench, openers: u8, all: [Option<u64>; 3]) {
+    let opens = |at: usize| openers >> at & 1 == 1;
+    let mut list = Vec::new();
+    for (at, duration) in all.into_iter().enumerate() {
+        let opening = bench.random.one_of(&OPENING_TYPES);
+        let other = bench.random.one_of(&[0x10, 0x11, 0x35]);
+        let type_id = if opens(at) { opening } else { other };
+        list.push(known(bench, type_id, duration));
+        if bench.random.once_in(3) {
+            list.push(longer_that_counts_for_nothing(bench));
+        }
+    }
+    let measuring = (0..3).filter(|at| opens(*at)).filter_map(|at| all[at]);
+    let opened = match measuring.max() {
+        _ if openers == 0 => vec![0],
+        Some(ticks) => vec![1, ticks],
+        None => vec![2],
+    };
+    let longest = all.into_iter().flatten().max();
+    let lasts = longest.map_or(vec![0], |ticks| vec![1, ticks]);
+    signal(bench, list, &opened, &lasts);
 }
 
 fn durations() -> Vec<Option<u64>> {

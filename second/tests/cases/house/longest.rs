@@ -4,7 +4,7 @@ use crate::support::built::{
     filled_section, grown, longest_section, sealed, section, Command, Descriptor, Segmentation,
     Writer, LONGEST,
 };
-use crate::support::house::BREAK;
+use crate::support::house::{BREAK, DASH_DURATION};
 use crate::support::Bench;
 use second::section::Apart;
 
@@ -20,12 +20,15 @@ pub fn all(bench: &mut Bench) {
     behind_many(bench);
 }
 
-/// The one descriptor that opens the break, measures it and has the label stands behind 500 others.
+/// The one descriptor that opens the break, measures it and has the label stands behind 500 others,
+/// and behind the program that is longest of all.
 fn behind_many(bench: &mut Bench) {
+    let mut program = Segmentation::of_type(&mut bench.random, 0x10);
+    (program.cancelled, program.duration, program.upid) = (false, Some(9), 0);
     let last = Segmentation {
         cancelled: false,
         components: Some(2),
-        duration: true,
+        duration: Some(8),
         upid: 8,
         type_id: 0x34,
         behind: 2,
@@ -33,7 +36,7 @@ fn behind_many(bench: &mut Bench) {
     for open_end in [false, true] {
         let random = &mut bench.random;
         let mut list: Vec<Writer> = (0..500).map(|_| Descriptor::audio(random, 0)).collect();
-        list.push(last.descriptor(random));
+        list.extend([program.descriptor(random), last.descriptor(random)]);
         let command = Command::time_signal(random);
         let mut section = section(random, command, list, &[]).bytes;
         if open_end {
@@ -42,8 +45,9 @@ fn behind_many(bench: &mut Bench) {
         }
         bench.ask_house(&section);
         let section = Apart::of(&section);
-        let opened = bench.house_answer(&BREAK, &section).expect("accepted");
-        assert_eq!((opened[0], opened.len()), (1, 2));
+        assert_eq!(bench.house_answer(&BREAK, &section), Ok(vec![1, 8]));
+        let lasts = bench.house_answer(&DASH_DURATION, &section);
+        assert_eq!(lasts, Ok(vec![1, 9]));
         let label = bench.bill_label(&section, b"");
         assert_eq!((label[0], label[2]), (0, 8));
     }

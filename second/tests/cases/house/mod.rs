@@ -1,11 +1,12 @@
-//! House answers: the break, the effective time, the first DVB check and the bill label, of sections
-//! of every kind, good ones and damaged ones. Each question is put in rooms of every kind
-//! (`support/house.rs`). One test runs all the groups, so that it can say at its end how often each
-//! answer, and each refusal, was reached.
+//! House answers: the break, the DASH duration, the effective time, the first DVB check and the bill
+//! label, of sections of every kind, good ones and damaged ones. Each question is put in rooms of every
+//! kind (`support/house.rs`). One test runs all the groups, so that it can say at its end how often
+//! each answer, and each refusal, was reached.
 
 mod breaks;
 mod labels;
 mod longest;
+mod mixed;
 mod published;
 mod refused;
 mod sections;
@@ -22,6 +23,7 @@ fn house_answers_are_alike() {
     published::samples(&mut bench);
     sections::all(&mut bench);
     breaks::all(&mut bench);
+    mixed::all(&mut bench);
     times::all(&mut bench);
     labels::all(&mut bench);
     longest::all(&mut bench);

@@ -1,6 +1,5 @@
-//! The files that `tests/programs.rs` puts through the programs, here through the archive's functions,
-//! in pieces as a program reads them. This is how they are compared where the proved program, which
-//! is for x86-64, does not run.
+//! The files that `tests/programs` puts through the programs, here through the archive's functions,
+//! in pieces as a program reads them.
 
 use crate::support::files::files;
 use crate::support::Bench;

@@ -37,14 +37,14 @@ fn ask_segmentation(bench: &mut Bench, chosen: &Segmentation) {
 /// With and without components, duration, sub-segments and a UPID, and cancelled.
 fn segmentations(bench: &mut Bench) {
     for components in [None, Some(0), Some(1), Some(3)] {
-        for duration in [false, true] {
+        for timed in [false, true] {
             for behind in [0, 2] {
                 for upid in [0, 1, 8] {
                     for cancelled in [false, false, false, true] {
                         let chosen = Segmentation {
                             cancelled,
                             components,
-                            duration,
+                            duration: timed.then(|| bench.random.field(40)),
                             upid,
                             type_id: bench.random.one_of(&SUB_SEGMENT_TYPES),
                             behind,

@@ -78,7 +78,7 @@ fn lists_behind_many(bench: &mut Bench) {
     let segmentation = Segmentation {
         cancelled: false,
         components: Some(2),
-        duration: true,
+        duration: Some(random.field(40)),
         upid: 8,
         type_id: 0x34,
         behind: 2,

@@ -162,12 +162,12 @@ fn filled_with_descriptors() {
 fn the_longest_segmentation() {
     let mut bench = Bench::new();
     for components in [None, Some(0), Some(38)] {
-        for duration in [false, true] {
+        for timed in [false, true] {
             for behind in [0, 2] {
                 let mut chosen = Segmentation {
                     cancelled: false,
                     components,
-                    duration,
+                    duration: timed.then(|| bench.random.field(40)),
                     upid: 0,
                     type_id: 0x30,
                     behind,

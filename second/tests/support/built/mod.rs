@@ -3,6 +3,7 @@
 
 mod command;
 mod descriptor;
+mod mixed;
 mod partner;
 mod repair;
 mod segmentation;
@@ -12,9 +13,10 @@ use super::random::Random;
 
 pub use command::{Command, Event};
 pub use descriptor::Descriptor;
+pub use mixed::mixed_signal;
 pub use partner::{partner, Partner, CHANGES};
 pub use repair::{cut, grown, with_crc, with_length_and_crc};
-pub use segmentation::{Segmentation, SUB_SEGMENT_TYPES};
+pub use segmentation::{any_duration, Segmentation, OPENING_TYPES, SUB_SEGMENT_TYPES};
 pub use writer::{Mark, Writer};
 
 /// The most bytes of a section.
@@ -77,8 +79,11 @@ pub fn any_section(random: &mut Random, size: Size) -> Built {
 }
 
 /// A section of the sort that opens a break: a time signal or an insert, with segmentation
-/// descriptors of which some open one, and others among them.
+/// descriptors of which some open one, and others among them. Half are time signals of mixed types.
 pub fn cue(random: &mut Random) -> Built {
+    if random.once_in(2) {
+        return mixed_signal(random).built;
+    }
     let command = match random.within(0..=3) {
         0 => Command::insert(random, Size::Short),
         _ => Command::time_signal(random),

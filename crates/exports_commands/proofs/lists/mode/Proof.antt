@@ -3,7 +3,7 @@
 use mathlib.Core.Path.{sym, ap}
 use native.Mathlib.Omega.{arith}
 use borrow.Author.Needs.{needs}
-use Rattle.exports_commands.specs.Numbers.{modeNumbers}
+use Rattle.exports_commands.specs.Commands.{modeNumbers}
 use Rattle.wire.proofs.Placed.{stands, told}
 use Rattle.exports_commands.proofs.lists.mode.Statement.{statement}
 use Rattle.exports_commands.proofs.lists.mode.Tie as tie
