@@ -6,7 +6,7 @@ use mathlib.Core.List.{List, [], _∷_}
 use mathlib.Core.Logic.{_⊎_, ⊎-elim}
 use Prim.Native.Nat.{ℕ, zero, suc, _+_, _-_, _*_, _/_, _%_, _≤_}
 use native.Mathlib.Omega.{arith}
-use Rattle.grammar.specs.Syntax.{Prog, field, under}
+use Rattle.grammar.specs.Syntax.{Prog, done, stop, fields, branch, call, repeat, frame, fill, under, field}
 use Rattle.grammar.specs.Meaning.{Env, bind, Reading, broken, reached, read, Outcome, breach, ends, endOf, run}
 use Rattle.grammar.specs.Tables.{bytes, splice-time, break-duration, avail-numbers, avails, schedule-times, schedule-event, splice-schedule, insert-component, insert-times, splice-insert, private-command, command, sized-command, avail-descriptor, dtmf-descriptor, delivery, segmentation-components, segmentation-end, segmentation-descriptor, time-descriptor, audio-descriptor, known-descriptor, splice-descriptor, descriptor-loop, payload}
 use Rattle.grammar.proofs.Run.{pass, ruled, filled-last, swept-bytes}
@@ -35,12 +35,24 @@ loop-end env f end k j m e =
     let is = frame-end _ _ _ f end (k + 16) j (fields-end _ _ env f end k j e) in
     (omega (arith, is .0), is .1)
 
--- the rest of Table 5, from the loop and from the command on
-abbrev looped : Prog
-looped = under 9 descriptor-loop (bytes "alignment_stuffing")
+-- what stands behind the first thing of a table
+abbrev after-first : Prog → Prog
+after-first done = done
+after-first stop = done
+after-first (fields rows p) = p
+after-first (branch test a b p) = p
+after-first (call a p) = p
+after-first (repeat n a p) = p
+after-first (frame n a p) = p
+after-first (fill a p) = p
+after-first (under n a p) = p
 
+-- the rest of Table 5, from the command and from the loop on
 abbrev commanded : Prog
-commanded = under 8 sized-command looped
+commanded = after-first payload
+
+abbrev looped : Prog
+looped = after-first commanded
 
 module _ (f : ℕ → ℕ) (end : ℕ) (whole : end % 8 ≡ 0) where
   -- bytes that are whole fill the part
@@ -48,6 +60,7 @@ module _ (f : ℕ → ℕ) (end : ℕ) (whole : end % 8 ≡ 0) where
   whole-bytes env k m h = filled-last (swept-bytes "alignment_stuffing" env f end ((end - k) / 8) k (omega arith)) .runs
 
   from-loop : (env : Env) (k : ℕ) → k % 8 ≡ 0 → Numbered (run looped env f end k)
+  unfolding payload
   from-loop env k m = go (run descriptor-loop env f end k) refl
     where
       go : (o : Outcome) → run descriptor-loop env f end k ≡ o → Numbered (run looped env f end k)
@@ -60,7 +73,7 @@ module _ (f : ℕ → ℕ) (end : ℕ) (whole : end % 8 ≡ 0) where
           subst Numbered (sym (ruled {n = 9} (record { runs = e }) (whole-bytes env j (is .0) (is .1)) .runs)) tt
 
   from-command : (env : Env) (k : ℕ) → k % 8 ≡ 0 → Numbered (run commanded env f end k)
-  unfolding run endOf
+  unfolding run endOf payload
   from-command env k m = go (read sized-command env f end k) refl
     where
       go : (r : Reading) → read sized-command env f end k ≡ r → Numbered (run commanded env f end k)
