@@ -1,6 +1,7 @@
 //! Times the proved library, the C yardstick and the second program in one process, round by round,
 //! and the three as programs on a file of lines. It first compares their answers, and stops with
-//! status 1 where they differ. The tables go to standard output, everything else to standard error.
+//! status 1 where they differ; with the word `agree` it does that alone. The tables go to standard
+//! output, everything else to standard error.
 
 mod agree;
 mod by_second;
@@ -33,16 +34,15 @@ fn main() -> ExitCode {
     let words: Vec<_> = words.iter().map(String::as_str).collect();
     let done = match words[..] {
         ["profile", root, question, program] => profile::run(Path::new(root), question, program),
-        [root, tally, yardstick, second, folder] => run(
-            Path::new(root),
-            &Programs {
-                tally: tally.into(),
-                yardstick: yardstick.into(),
-                second: second.into(),
-                folder: folder.into(),
-            },
-        ),
-        _ => Err("usage: bench ROOT TALLY YARDSTICK SECOND FOLDER".to_string()),
+        ["agree", root, tally, yardstick, second, folder] => {
+            let programs = Programs::new(tally, yardstick, second, folder);
+            run(Path::new(root), &programs, false)
+        }
+        [root, tally, yardstick, second, folder] => {
+            let programs = Programs::new(tally, yardstick, second, folder);
+            run(Path::new(root), &programs, true)
+        }
+        _ => Err("usage: bench [agree] ROOT TALLY YARDSTICK SECOND FOLDER".to_string()),
     };
     match done {
         Ok(()) => ExitCode::SUCCESS,
@@ -53,7 +53,8 @@ fn main() -> ExitCode {
     }
 }
 
-fn run(root: &Path, programs: &Programs) -> Result<(), String> {
+/// Compares all answers, and times them if that is asked.
+fn run(root: &Path, programs: &Programs, timed: bool) -> Result<(), String> {
     let jobs = Jobs::new();
     let day = Day::new(root);
     let (cues, kinds, lengths) = (day.cues(), samples::kinds(), samples::lengths());
@@ -61,6 +62,9 @@ fn run(root: &Path, programs: &Programs) -> Result<(), String> {
     let files = whole::compare(programs, &day)?;
     let compared = agree::check(&jobs, &all)?;
     eprintln!("bench: the three programs give the same {compared} answers");
+    if !timed {
+        return Ok(());
+    }
     println!("The three programs gave the same {compared} answers before anything was timed.");
 
     tables::day(&jobs, &cues, &day.says());

@@ -86,6 +86,15 @@ fn written(programs: &Programs, day: &Day, name: &str, lines: usize) -> Result<P
 }
 
 impl Programs {
+    pub fn new(tally: &str, yardstick: &str, second: &str, folder: &str) -> Programs {
+        Programs {
+            tally: tally.into(),
+            yardstick: yardstick.into(),
+            second: second.into(),
+            folder: folder.into(),
+        }
+    }
+
     fn tally(&self) -> Run<'_> {
         Run(&self.tally, None)
     }

@@ -41,6 +41,7 @@ static struct break_answer insert_break(const uint8_t *at)
     return opened(true, clock_33(behind_times(at + 6, at[5] & 0x40, at[5] & 0x10)));
 }
 
+/* Only a descriptor that opens a break measures it. */
 static struct break_answer signal_break(struct loop loop)
 {
     bool opens = false, measured = false;
@@ -54,13 +55,15 @@ static struct break_answer signal_break(struct loop loop)
         at += 6;
         if (!program)
             at += 1 + 6 * (size_t)at[0];
+        const uint8_t *upid = at + (duration ? 5 : 0);
+        if (!opens_break(upid[2 + upid[1]]))
+            continue;
+        opens = true;
         if (duration) {
             uint64_t ticks = big_endian_40(at);
             longest = ticks > longest ? ticks : longest;
             measured = true;
-            at += 5;
         }
-        opens |= opens_break(at[2 + at[1]]);
     }
     return opens ? opened(measured, longest) : (struct break_answer){BREAK_NONE, 0};
 }
