@@ -302,7 +302,7 @@ along (stream.turn {held} {next} {carry} {stream} {answers} {taken} {written} be
 -- at the end of the stream the line that is held is ended, if it is not empty
 last-is : (held : Held) (carry line : List ℕ) → 5464 ≤ length carry → Stands held carry line → lastSaid held carry ≡ said (cut line [])
 unfolding lastSaid cut said
-last-is (Held.Characters zero) carry line h s = sym (ap (λ (l : List ℕ). said (cond (eqb (length l) 0) [] (l ∷ []))) (s .1))
+last-is (Held.Characters zero) carry line h s = sym (ap (λ (l : List ℕ). said (cut l [])) (s .1))
 last-is (Held.Characters (suc n)) carry line h s =
     let long : length line ≡ suc n = ap length (s .1) ∙ length-take-le (suc n) carry (omega (arith, s .0)) in
     ap spelled (stands-ended (Held.Characters (suc n)) carry [] line h s ∙ ap lineAnswer (append-nil line))
