@@ -64,10 +64,10 @@ module _ (f : ℕ → ℕ) (end : ℕ) (whole : end % 8 ≡ 0) where
   from-loop env k m = go (run descriptor-loop env f end k) refl
     where
       go : (o : Outcome) → run descriptor-loop env f end k ≡ o → Numbered (run looped env f end k)
-      go (breach zero) e = subst Numbered (sym (ruled {p = bytes "alignment_stuffing"} (record { runs = e }) refl .runs)) (omega arith)
+      go (breach zero) e = subst Numbered (sym (ruled {p = bytes "alignment_stuffing"} (record { runs = e }) refl .runs)) (omega arith, omega arith)
       go (breach (suc n)) e =
           let ten : suc n ≡ 10 = ⊎-elim (λ q. absurd (omega arith)) (λ q. q) (loop-breach env f end k (suc n) e) in
-          subst Numbered (sym (ruled {p = bytes "alignment_stuffing"} (record { runs = e }) refl .runs)) (omega arith)
+          subst Numbered (sym (ruled {p = bytes "alignment_stuffing"} (record { runs = e }) refl .runs)) (omega arith, omega arith)
       go (ends j) e =
           let is = loop-end env f end k j m e in
           subst Numbered (sym (ruled (record { runs = e }) (whole-bytes env j (is .0) (is .1)) .runs)) tt
@@ -79,7 +79,7 @@ module _ (f : ℕ → ℕ) (end : ℕ) (whole : end % 8 ≡ 0) where
       go : (r : Reading) → read sized-command env f end k ≡ r → Numbered (run commanded env f end k)
       go (broken n) e =
           let bare = command-bare env f end k n (ap endOf e) in
-          subst Numbered (sym (ruled {p = looped} (record { runs = ap endOf e ∙ ap breach bare }) refl .runs)) (omega arith)
+          subst Numbered (sym (ruled {p = looped} (record { runs = ap endOf e ∙ ap breach bare }) refl .runs)) (omega arith, omega arith)
       go (reached j t) e =
           subst Numbered (sym (ruled {p = looped} (record { runs = ap endOf e }) refl .runs))
           (from-loop env j (command-octets env f end k j t m e))
