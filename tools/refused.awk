@@ -87,6 +87,19 @@ function is_fact(message) {
         message ~ /^list the missing equation /
 }
 
+# The crates with a function that is a table, which has an arm for each number.
+BEGIN {
+    tables["base64"]
+    tables["crc_tables"]
+    tables["text_writing"]
+}
+
+# What was expected of an arm whose error is on the line before.
+kind == "log" && arm_of != "" {
+    if (/^  expected type `/ && index($0, promise)) refused[arm_of] = 1
+    arm_of = ""
+}
+
 # An error of the proof of a function, or of a law.
 kind == "log" && /\/proofs\/[^ ]*\.antt:[0-9]+:[0-9]+: error: `/ {
     at = index($0, ": error: `")
@@ -105,12 +118,18 @@ kind == "log" && /\/proofs\/[^ ]*\.antt:[0-9]+:[0-9]+: error: `/ {
     spec = file
     sub(/.*\//, "", spec)
     gsub("_", "-", spec)
-    # The last part of a proof, FUNCTION-spec, fits its facts to the shape of the code and does not count. A table of
-    # crc_tables is the exception: its facts, an arm each of sixteen, stand there without names. Where one of them fails,
-    # what is expected is the promise itself.
-    is_arm = crate == "crc_tables" && index(message, ".proofs." file ".Reads.Post ")
-    if (fact == spec "-spec" && !is_arm) next
+    promise = file
+    gsub("/", ".", promise)
+    promise = ".proofs." promise ".Reads.Post "
     gsub("/", "::", file)
+    # The last part of a proof, FUNCTION-spec, fits its facts to the shape of the code and does not count. A table is the
+    # exception: its facts, an arm each, stand there without names. Where one of them fails, what is expected is the
+    # promise itself; where the error shows how two types differ, its next line says so.
+    if (fact == spec "-spec" && !index(message, promise)) {
+        if (crate in tables) arm_of = file
+        next
+    }
+    if (fact == spec "-spec" && !(crate in tables)) next
     refused[file] = 1
 }
 

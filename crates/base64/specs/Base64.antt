@@ -24,6 +24,10 @@ sextet c =
     (cond (eqb c 43) 62
     (cond (eqb c 47) 63 64))))
 
+-- the same, but 2 ^ 24 for a character outside the alphabet: more than the bits of four characters make
+unfoldable pub six : ℕ → ℕ
+six c = cond (ltb (sextet c) 64) (sextet c) (2 ^ 24)
+
 -- how many `=` end the text as padding: one in the last place, and one more before it when the last is `=` too
 unfoldable pub padding : List ℕ → ℕ
 padding t = cond (eqb (getD t (length t - 1) 0) 61) (cond (eqb (getD t (length t - 2) 0) 61) 2 1) 0

@@ -1,3 +1,4 @@
+pub mod Groups
 pub mod RoundTrip
 pub mod Rows
 pub mod Vectors

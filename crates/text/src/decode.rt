@@ -1,28 +1,20 @@
-// From text to bytes: the questions that may refuse a text, and the pass that writes its bytes.
+// From text to bytes, four characters at a time: a group is looked at once, tested once, and gives its three bytes. They go to
+// memory of the reader's own, since the lent memory stays as it was until the whole text has passed.
 ghost use mathlib.Core.Path.{_≡_};
-ghost use Prim.Native.Nat.{_+_, _*_, _/_, _%_, _≤_};
-ghost use lib.ListN.{length, take};
-ghost use Rattle.bits.specs.Bits.{num, bytesOf};
+ghost use mathlib.Core.Bool.{Bool, true, cond};
+ghost use Prim.Native.Nat.{_+_, _*_, _/_, _%_, _<_, _≤_};
+ghost use lib.Dec.{ltb};
+ghost use lib.ListN.{length, getD, take};
+ghost use Rattle.bits.specs.Bits.{bytesOf};
 ghost use Rattle.units.specs.Answers.{memory};
-ghost use Rattle.text.specs.Text.{sextet, padding, before, textBit, allOf, spare};
-
-// The six bits that a character stands for; 64 for a character outside the alphabet.
-fn sextet(c: u8) -> u64
-    ensures { λ r. ⌜ r ≡ sextet c ⌝ }
-{
-    let v = c as u64;
-    match c {
-        b'A'..=b'Z' => v - 65,
-        b'a'..=b'z' => v - 71,
-        b'0'..=b'9' => v + 4,
-        b'+' => 62,
-        b'/' => 63,
-        _ => 64,
-    }
-}
+ghost use Rattle.text.specs.Groups.{plain, worth};
+ghost use Rattle.text.specs.Text.{padding, before, textBit, allOf, read, readInto};
+use base64::OUTSIDE;
+use units::Refusal;
+use units::Written;
 
 // How many `=` end the text as padding.
-pub(crate) fn padding(text: &[u8]) -> usize
+fn padding(text: &[u8]) -> usize
     requires { ⌜ length (now text) % 4 ≡ 0 ⌝ }
     ensures { λ r. ⌜ r ≡ padding (now (text .entry)) ⌝ }
 {
@@ -39,52 +31,32 @@ pub(crate) fn padding(text: &[u8]) -> usize
     2
 }
 
-// Whether each of the first n characters is of the alphabet.
-pub(crate) fn all_of(text: &[u8], n: usize) -> bool
-    requires { ⌜ n ≤ length (now text) ⌝ }
-    ensures { λ r. ⌜ r ≡ allOf (take n (now (text .entry))) ⌝ }
+// Character i of the text; in the place of padding, which starts at place n, the one that stands for six bits of 0.
+fn plain(text: &[u8], n: usize, i: usize) -> u8
+    requires { ⌜ i < length (now text) ⌝ }
+    ensures { λ r. ⌜ r ≡ plain (now (text .entry)) n i ⌝ }
 {
-    let mut i = 0;
-    while i < n {
-        if 63 < sextet(text[i]) {
-            return false;
-        }
-        i += 1;
-    }
-    true
+    let c = text[i];
+    if i < n { c } else { b'A' }
 }
 
-// The number that the spare bits make: the last ones of the n characters before the padding.
-pub(crate) fn spare(text: &[u8], n: usize) -> u64
-    requires { ⌜ (length (now text) % 4 ≡ 0) × (n ≡ before (now text)) ⌝ }
-    ensures { λ r. ⌜ r ≡ spare (now (text .entry)) ⌝ }
+// The 24 bits of the four characters from place `at` on, with the padding from place n on; OUTSIDE or more where one of them is
+// outside the alphabet. A group has two characters at least.
+fn group(text: &[u8], n: usize, at: usize) -> u64
+    requires { ⌜ (at + 4 ≤ length (now text)) × (at + 2 ≤ n) ⌝ }
+    ensures { λ r. ⌜ r ≡ worth (plain (now (text .entry)) n) at 4 ⌝ }
 {
-    if n % 4 == 2 {
-        return sextet(text[n - 1]) % 16;
+    let four = [
+        text[at],
+        text[at + 1],
+        plain(text, n, at + 2),
+        plain(text, n, at + 3),
+    ];
+    let mut v: u64 = 0;
+    for k in 0..4 {
+        v = v * 64 + base64::six(four[k]);
     }
-    if n % 4 == 3 {
-        return sextet(text[n - 1]) % 4;
-    }
-    0
-}
-
-// The bits of a character as a digit of a group; `=` counts as 0.
-fn digit(c: u8) -> u64
-    ensures { λ r. ⌜ r ≡ sextet c % 64 ⌝ }
-{
-    sextet(c) % 64
-}
-
-// The 24 bits of four characters, from place `at` on.
-fn group(text: &[u8], at: usize) -> u64
-    requires { ⌜ at + 4 ≤ length (now text) ⌝ }
-    ensures { λ r. ⌜ r ≡ num (textBit (now (text .entry))) (6 * at) 24 ⌝ }
-{
-    let a = digit(text[at]);
-    let b = digit(text[at + 1]);
-    let c = digit(text[at + 2]);
-    let d = digit(text[at + 3]);
-    ((a * 64 + b) * 64 + c) * 64 + d
+    v
 }
 
 // The last eight bits of x.
@@ -94,35 +66,50 @@ fn low(x: u64) -> u8
     (x % 256) as u8
 }
 
-// The bytes of the first n groups of four characters, written to the front of out.
-fn put_groups(text: &[u8], out: &mut [u8], n: usize)
-    requires { ⌜ (4 * n ≤ length (now text)) × (3 * n ≤ length (now out)) ⌝ }
-    ensures { λ _. ⌜ now (out .exit) ≡ memory 0 (bytesOf (textBit (now (text .entry))) (3 * n)) (now (out .entry)) ⌝ }
+// Puts the bytes of all groups into the front of the memory, up to the first group with a character outside the alphabet, and
+// says whether there is none. The padding starts at place n.
+fn put_groups(text: &[u8], n: usize, own: &mut [u8]) -> bool
+    requires { ⌜ (length (now text) % 4 ≡ 0) × (n ≡ before (now text)) × (3 * (length (now text) / 4) ≤ length (now own)) ⌝ }
+    ensures { λ r. ⌜ (r ≡ allOf (take (before (now (text .entry))) (now (text .entry)))) × (r ≡ true → now (own .exit) ≡ memory 0 (bytesOf (textBit (now (text .entry))) (3 * (length (now (text .entry)) / 4))) (now (own .entry))) ⌝ }
 {
+    let groups = text.len() / 4;
     let mut q = 0;
-    while q < n {
-        let v = group(text, 4 * q);
-        out[3 * q] = low(v / 65536);
-        out[3 * q + 1] = low(v / 256);
-        out[3 * q + 2] = low(v);
+    while q < groups {
+        let v = group(text, n, 4 * q);
+        if OUTSIDE <= v {
+            return false;
+        }
+        own[3 * q] = low(v / 65536);
+        own[3 * q + 1] = low(v / 256);
+        own[3 * q + 2] = low(v);
         q += 1;
     }
+    true
 }
 
-// The first n bytes of the text, written to the front of out; the last group gives one or two where n asks no more.
-pub(crate) fn put(text: &[u8], out: &mut [u8], n: usize)
-    requires { ⌜ ((n + 2) / 3 * 4 ≤ length (now text)) × (n ≤ length (now out)) ⌝ }
-    ensures { λ _. ⌜ now (out .exit) ≡ memory 0 (bytesOf (textBit (now (text .entry))) n) (now (out .entry)) ⌝ }
+// Byte i of the bytes of all groups, 0 past their end: after the last whole byte stand the spare bits, with zeros after them.
+fn byte(bytes: &[u8], i: usize) -> u8
+    ensures { λ r. ⌜ r ≡ getD (now (bytes .entry)) i 0 ⌝ }
 {
-    let whole = n / 3;
-    put_groups(text, out, whole);
-    if n % 3 == 0 {
-        return;
+    if i < bytes.len() { bytes[i] } else { 0 }
+}
+
+// Reads a text of whole groups by way of the reader's own memory, which has room for three bytes a group.
+pub(crate) fn read_in(text: &[u8], own: &mut [u8], out: &mut [u8]) -> Written
+    requires { ⌜ (length (now text) % 4 ≡ 0) × (length (now text) ≤ 5464) × (3 * (length (now text) / 4) ≤ length (now own)) ⌝ }
+    ensures { λ r. ⌜ (r ≡ read (now (text .entry)) (now (out .entry))) × (now (out .exit) ≡ readInto (now (text .entry)) (now (out .entry))) ⌝ }
+{
+    let n = text.len() - padding(text);
+    if !put_groups(text, n, own) {
+        return Written::Refused(Refusal::TextChar);
     }
-    let v = group(text, 4 * whole);
-    out[3 * whole] = low(v / 65536);
-    if n % 3 == 1 {
-        return;
+    let count = 6 * n / 8;
+    if 0 < byte(&own[..3 * (text.len() / 4)], count) {
+        return Written::Refused(Refusal::TextBits);
     }
-    out[3 * whole + 1] = low(v / 256);
+    if lent::put(&own[..count], out, 0) {
+        Written::Count(count)
+    } else {
+        Written::Refused(Refusal::Room)
+    }
 }

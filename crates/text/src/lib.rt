@@ -5,6 +5,7 @@ ghost use mathlib.Core.Path.{_≡_};
 ghost use Rattle.text.specs.Text.{read, readInto};
 pub use text_writing::to_text;
 use units::MOST_TEXT;
+use units::MOST_TEXT_BYTES;
 use units::Refusal;
 use units::Written;
 
@@ -19,17 +20,10 @@ pub fn to_section(text: &[u8], out: &mut [u8]) -> Written
     if MOST_TEXT < n {
         return Written::Refused(Refusal::TextLen);
     }
-    let before = n - decode::padding(text);
-    if !decode::all_of(text, before) {
-        return Written::Refused(Refusal::TextChar);
+    if n <= 256 {
+        let mut own = [0u8; 192];
+        return decode::read_in(text, &mut own, out);
     }
-    if 0 < decode::spare(text, before) {
-        return Written::Refused(Refusal::TextBits);
-    }
-    let count = 6 * before / 8;
-    if out.len() < count {
-        return Written::Refused(Refusal::Room);
-    }
-    decode::put(text, out, count);
-    Written::Count(count)
+    let mut own = [0u8; MOST_TEXT_BYTES];
+    decode::read_in(text, &mut own, out)
 }

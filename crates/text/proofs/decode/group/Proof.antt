@@ -1,86 +1,69 @@
--- `text::decode::group` meets its contract: four digits of six bits make the number of the 24.
+-- `text::decode::group` meets its contract. The loop's invariant: v is what the characters passed make. The measure is what is
+-- left of the four.
 -- Assumes nothing.
-use borrow.Author.Needs.{needs}
+use mathlib.Core.Path.{_≡_, refl, sym, ap, _∙_}
+use Prim.Native.Nat.{ℕ, _+_, _-_, _<_, _≤_}
 use native.Mathlib.Omega.{arith}
-use Rattle.base64.proofs.TextBits.{text-group}
+use lib.ListN.{getD}
+use Rattle.base64.specs.Base64.{six}
+use Rattle.text.specs.Groups.{plain, worth}
+use Rattle.text.proofs.Groups.{worth-none, worth-more, room, laid, plain-in}
 use Rattle.text.proofs.decode.group.Statement.{statement}
 use Rattle.text.proofs.decode.group.Tie as tie
 
-shared-slice-read-digit : tie.Need-shared-slice-read-digit
-shared-slice-read-digit c = search needs
+abbrev Inv-loop : tie.InvT-loop
+Inv-loop text n at four v₀ k₀ v k = (k ≤ 4) × (v ≡ worth (plain text n) at k)
 
-digit-requires : tie.Need-digit-requires
-digit-requires c κs = search needs
+abbrev μ-loop : tie.MeasureT-loop
+μ-loop text n at four v₀ k₀ v k = 4 - k
 
-add-digit : tie.Need-add-digit
-add-digit c = search needs
+loop-holds : tie.Need-loop-holds Inv-loop μ-loop
+loop-holds c = (omega arith, worth-none _ _)
 
-shared-slice-read-digit-2 : tie.Need-shared-slice-read-digit-2
-shared-slice-read-digit-2 c = search needs
+mul-v : tie.Need-mul-v Inv-loop μ-loop
+mul-v c =
+    let start = c .before .before .before .before .before .before .before .args in
+    omega
+    (arith, room (plain (start .text .now) (start .n)) (start .at) (c .before .loop .k) _ _ 65 (omega arith) (c .before .loop .inv .1) refl)
 
-digit-requires-2 : tie.Need-digit-requires-2
-digit-requires-2 c κs = search needs
+add-v : tie.Need-add-v Inv-loop μ-loop
+add-v c =
+    let start = c .before .before .before .before .before .before .before .before .args in
+    omega
+    (arith, room (plain (start .text .now) (start .n)) (start .at) (c .before .before .loop .k) _ _ _ (omega arith) (c .before .before .loop .inv .1) (c .six .ensures))
 
-add-digit-2 : tie.Need-add-digit-2
-add-digit-2 c = search needs
+loop-again : tie.Need-loop-again Inv-loop μ-loop
+loop-again c =
+    let start = c .before .before .before .before .before .before .before .before .args in
+    let in-text = plain-in (start .text .now) (start .n) in
+    let here =
+    laid (plain (start .text .now) (start .n)) (start .at) _ _ _ _ (sym (in-text (start .at) (omega arith))) (sym (in-text (start .at + 1) (omega arith)))
+    (c .before .before .before .before .plain .ensures) (c .before .before .before .plain2 .ensures)
+    (c .before .before .loop .k) (omega arith) in
+    (omega arith, worth-more _ _ _ _ _ (c .before .before .loop .inv .1) (c .six .ensures ∙ ap six here))
 
-shared-slice-read-digit-3 : tie.Need-shared-slice-read-digit-3
-shared-slice-read-digit-3 c = search needs
-
-digit-requires-3 : tie.Need-digit-requires-3
-digit-requires-3 c κs = search needs
-
-add-digit-3 : tie.Need-add-digit-3
-add-digit-3 c = search needs
-
-shared-slice-read-digit-4 : tie.Need-shared-slice-read-digit-4
-shared-slice-read-digit-4 c = search needs
-
-digit-requires-4 : tie.Need-digit-requires-4
-digit-requires-4 c κs = search needs
-
-mul-result : tie.Need-mul-result
-mul-result c = search needs
-
-add-result : tie.Need-add-result
-add-result c = search needs
-
-mul-result-2 : tie.Need-mul-result-2
-mul-result-2 c = search needs
-
-add-result-2 : tie.Need-add-result-2
-add-result-2 c = search needs
-
-mul-result-3 : tie.Need-mul-result-3
-mul-result-3 c = search needs
-
-add-result-3 : tie.Need-add-result-3
-add-result-3 c = search needs
-
-returns : tie.Need-returns
-returns c =
-    let start = c .before .before .before .before .before .before .before .before .before .args in
-    omega (arith, text-group (start .text .now) (start .at))
+returns : tie.Need-returns Inv-loop μ-loop
+returns c = c .before .loop .inv .1 ∙ ap (worth _ _) (omega arith)
 
 pub group-spec : {M : Type 1} → statement M
 group-spec =
     tie.close
     (tie.spec
-    shared-slice-read-digit
-    digit-requires
-    add-digit
-    shared-slice-read-digit-2
-    digit-requires-2
-    add-digit-2
-    shared-slice-read-digit-3
-    digit-requires-3
-    add-digit-3
-    shared-slice-read-digit-4
-    digit-requires-4
-    mul-result
-    add-result
-    mul-result-2
-    add-result-2
-    mul-result-3
-    add-result-3
+    Inv-loop
+    μ-loop
+    (λ c. omega arith)
+    (λ c. omega arith)
+    (λ c. omega arith)
+    (λ c. omega arith)
+    (λ c κs. omega arith)
+    (λ c. omega arith)
+    (λ c κs. omega arith)
+    loop-holds
+    mul-v
+    (λ c. omega arith)
+    (λ c κs. tt)
+    add-v
+    (λ c. omega arith)
+    (λ c. omega arith)
+    loop-again
     returns)

@@ -1,101 +1,83 @@
--- `text::decode::put_groups` meets its contract. The loop's invariant: the bytes of the groups passed fill the front of `out`,
--- and the rest is as it was. The measure is what is left of `n`.
+-- `text::decode::put_groups` meets its contract. The loop's invariant: every character passed is of the alphabet, the bytes of the
+-- groups passed fill the front of `own`, and the rest is as it was. The measure is what is left of the groups.
 -- Assumes nothing.
-use mathlib.Core.Path.{_≡_, refl, _∙_}
-use Prim.Native.Nat.{_+_, _-_, _*_, _≤_}
+use mathlib.Core.Path.{_≡_, refl, sym, _∙_}
+use mathlib.Core.Bool.{false≢true}
+use Prim.Native.Nat.{ℕ, _+_, _-_, _*_, _^_, _<_, _≤_}
 use native.Mathlib.Omega.{arith}
-use lib.ListN.{length, length-set}
+use lib.ListN.{length, getD, length-set, take}
 use Rattle.bits.specs.Bits.{run, byteOf, bytesOf}
 use Rattle.units.specs.Answers.{memory}
-use Rattle.text.specs.Text.{textBit}
+use Rattle.base64.specs.Base64.{sextet}
+use Rattle.text.specs.Text.{before, textBit, allOf}
+use Rattle.base64.proofs.AllOf.{all-each}
+use Rattle.base64.proofs.Counts.{before-le}
+use Rattle.base64.proofs.Padding.{padding-le}
 use Rattle.base64.proofs.Fill.{fill-none, fill-same, fill-more}
 use Rattle.base64.proofs.TextBits.{byte-cut}
+use Rattle.text.proofs.Groups.{bits, passed, refused}
 use Rattle.text.proofs.decode.put_groups.Statement.{statement}
 use Rattle.text.proofs.decode.put_groups.Tie as tie
 
 abbrev Inv-loop : tie.InvT-loop
-Inv-loop text out₀ n q₀ out q =
-    (q ≤ n) × (length out ≡ length out₀) × (out ≡ memory 0 (run (byteOf (textBit text)) 0 (3 * q)) out₀)
+Inv-loop text n own₀ groups q₀ own q =
+    (q ≤ groups) × ((i : ℕ) → i < 4 * q → i < n → sextet (getD text i 0) < 64) × (length own ≡ length own₀)
+    × (own ≡ memory 0 (run (byteOf (textBit text)) 0 (3 * q)) own₀)
 
 abbrev μ-loop : tie.MeasureT-loop
-μ-loop text out₀ n q₀ out q = n - q
+μ-loop text n own₀ groups q₀ own q = groups - q
 
 loop-holds : tie.Need-loop-holds Inv-loop μ-loop
 loop-holds c =
     let start = c .before .before .args in
-    (omega arith, refl, fill-none (byteOf (textBit (start .text .now))) (start .out .now))
-
-mul-group : tie.Need-mul-group Inv-loop μ-loop
-mul-group c = omega arith
+    (omega arith, (λ i l. absurd (omega arith)), refl, fill-none (byteOf (textBit (start .text .now))) (start .own .now))
 
 group-requires : tie.Need-group-requires Inv-loop μ-loop
-group-requires c κs = omega arith
+unfolding before
+group-requires c κs =
+    let start = c .before .before .before .before .args in
+    (omega arith, omega (arith, padding-le (start .text .now)))
 
-low-requires : tie.Need-low-requires Inv-loop μ-loop
-low-requires c κs = tt
-
-mul-out : tie.Need-mul-out Inv-loop μ-loop
-mul-out c = omega arith
-
-slice-write-out : tie.Need-slice-write-out Inv-loop μ-loop
-slice-write-out c = omega arith
-
-low-requires-2 : tie.Need-low-requires-2 Inv-loop μ-loop
-low-requires-2 c κs = tt
-
-mul-out-2 : tie.Need-mul-out-2 Inv-loop μ-loop
-mul-out-2 c = omega arith
-
-add-out : tie.Need-add-out Inv-loop μ-loop
-add-out c = omega arith
-
-slice-write-out-2 : tie.Need-slice-write-out-2 Inv-loop μ-loop
-slice-write-out-2 c = simp length-set (omega arith)
-
-low-requires-3 : tie.Need-low-requires-3 Inv-loop μ-loop
-low-requires-3 c κs = tt
-
-mul-out-3 : tie.Need-mul-out-3 Inv-loop μ-loop
-mul-out-3 c = omega arith
-
-add-out-2 : tie.Need-add-out-2 Inv-loop μ-loop
-add-out-2 c = omega arith
-
-slice-write-out-3 : tie.Need-slice-write-out-3 Inv-loop μ-loop
-slice-write-out-3 c = simp length-set (omega arith)
-
-add-q : tie.Need-add-q Inv-loop μ-loop
-add-q c = omega arith
-
-loop-less : tie.Need-loop-less Inv-loop μ-loop
-loop-less c = omega arith
+returns : tie.Need-returns Inv-loop μ-loop
+returns c =
+    let at = c .before .before .before in
+    let start = at .before .before .before in (
+      sym (refused (start .args .text .now) (start .args .n) (start .pre .1) (at .loop .q) (omega arith) (omega (arith, c .before .group .ensures))),
+      λ e. absurd (false≢true e),
+    )
 
 loop-again : tie.Need-loop-again Inv-loop μ-loop
 loop-again c =
-    let start = c .before .before .before .before .before .before .before .before .args in
-    let at = c .before .before .before .before .before .loop in
+    let at = c .before .before .before .before .before .before .loop in
+    let start = c .before .before .before .before .before .before .before .before .before in
+    let text = start .args .text .now in
     let q = at .q in
-    let group = c .before .before .before .group in
-    let fill = fill-more (byteOf (textBit (start .text .now))) (start .out .now) in
-    let byte = byte-cut (start .text .now) q (group .result) in
+    let group = c .before .before .before .before .group in
+    let fine : group .result < 2 ^ 24 = omega arith in
+    let low-bits = group .ensures ∙ bits text (start .args .n) (start .pre .1) (4 * q) (omega arith) (omega (arith, group .ensures)) in
+    let fill = fill-more (byteOf (textBit text)) (start .args .own .now) in
+    let byte = byte-cut text q (group .result) in
     let first =
-    fill _ (3 * q) (3 * q + 1) _ refl (omega arith) (at .inv .2)
-    (c .before .before .low .ensures ∙ byte (3 * q) 0 16 _ (group .ensures) refl (omega arith) refl) in
+    fill _ (3 * q) (3 * q + 1) _ refl (omega arith) (at .inv .3)
+    (c .before .before .low .ensures ∙ byte (3 * q) 0 16 _ low-bits refl (omega arith) refl) in
     let second =
     fill _ (3 * q + 1) (3 * q + 2) _ (omega arith) (omega arith) first
-    (c .before .low2 .ensures ∙ byte (3 * q + 1) 8 8 _ (group .ensures) refl (omega arith) refl) in
+    (c .before .low2 .ensures ∙ byte (3 * q + 1) 8 8 _ low-bits refl (omega arith) refl) in
     let third =
     fill _ (3 * q + 2) (3 * (q + 1)) _ (omega arith) (omega arith) second
-    (c .low3 .ensures ∙ byte (3 * q + 2) 16 0 _ (group .ensures) refl (omega arith) (omega arith)) in
-    (omega arith, simp length-set (at .inv .1), third)
+    (c .low3 .ensures ∙ byte (3 * q + 2) 16 0 _ low-bits refl (omega arith) (omega arith)) in
+    (omega arith, passed text (start .args .n) (start .pre .1) q (at .inv .1) (omega (arith, group .ensures)), simp length-set (at .inv .2), third)
 
-same-length : tie.Need-same-length Inv-loop μ-loop
-same-length c = omega arith
-
-returns : tie.Need-returns Inv-loop μ-loop
+returns-2 : tie.Need-returns-2 Inv-loop μ-loop
 unfolding bytesOf
-returns c =
-    fill-same (byteOf (textBit (c .before .before .before .before .args .text .now))) _ _ _ _ (omega arith) (c .before .loop .inv .2)
+returns-2 c =
+    let start = c .before .before .before .before in
+    let text = start .args .text .now in
+    let all : (i : ℕ) → i < before text → sextet (getD text i 0) < 64 =
+    λ i l. c .before .loop .inv .1 i (omega (arith, before-le text)) (omega arith) in (
+      sym (all-each text (before text) (before-le text) all),
+      λ e. fill-same (byteOf (textBit text)) _ _ _ _ (omega arith) (c .before .loop .inv .3),
+    )
 
 pub put-groups-spec : {M : Type 1} → statement M
 put-groups-spec =
@@ -104,21 +86,23 @@ put-groups-spec =
     Inv-loop
     μ-loop
     loop-holds
-    mul-group
+    (λ c. omega arith)
     group-requires
-    low-requires
-    mul-out
-    slice-write-out
-    low-requires-2
-    mul-out-2
-    add-out
-    slice-write-out-2
-    low-requires-3
-    mul-out-3
-    add-out-2
-    slice-write-out-3
-    add-q
-    loop-less
+    (λ c. omega arith)
+    returns
+    (λ c κs. tt)
+    (λ c. omega arith)
+    (λ c. omega arith)
+    (λ c κs. tt)
+    (λ c. omega arith)
+    (λ c. omega arith)
+    (λ c. simp length-set (omega arith))
+    (λ c κs. tt)
+    (λ c. omega arith)
+    (λ c. omega arith)
+    (λ c. simp length-set (omega arith))
+    (λ c. omega arith)
+    (λ c. omega arith)
     loop-again
-    same-length
-    returns)
+    (λ c. omega arith)
+    returns-2)

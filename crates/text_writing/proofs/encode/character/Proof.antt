@@ -1,59 +1,82 @@
--- `text_writing::encode::character` meets its contract: each way through its match is one range of values.
+-- `text_writing::encode::character` meets its contract: each arm has the character that the definition computes to at its value.
 -- Assumes nothing.
-use borrow.Author.Needs.{needs}
-use mathlib.Core.Path.{sym, ap, _∙_}
-use Prim.Native.Nat.{_%_}
+use mathlib.Core.Path.{_≡_, sym, ap}
+use Prim.Native.Nat.{ℕ}
 use native.Mathlib.Omega.{arith}
 use Rattle.base64.specs.Base64.{character}
-use Rattle.base64.proofs.Alphabet.{character-upper, character-lower, character-digit, character-plus, character-slash}
+use Rattle.base64.proofs.Arms.{past}
 use Rattle.text_writing.proofs.encode.character.Statement.{statement}
 use Rattle.text_writing.proofs.encode.character.Tie as tie
 
-add-result : tie.Need-add-result
-add-result c = search needs
-
-cast-result : tie.Need-cast-result
-cast-result c = search needs
-
-add-result-2 : tie.Need-add-result-2
-add-result-2 c = search needs
-
-cast-result-2 : tie.Need-cast-result-2
-cast-result-2 c = search needs
-
-sub-result : tie.Need-sub-result
-sub-result c = search needs
-
-cast-result-3 : tie.Need-cast-result-3
-cast-result-3 c = search needs
-
-returns : tie.Need-returns
-returns c = sym (ap character (c .match .keys1) ∙ character-plus)
-
-returns-2 : tie.Need-returns-2
-returns-2 c = omega (arith, character-upper (c .before .before .args .x % 64) (omega arith))
-
-returns-3 : tie.Need-returns-3
-returns-3 c = omega (arith, character-lower (c .before .before .before .args .x % 64) (omega arith) (omega arith))
-
-returns-4 : tie.Need-returns-4
-returns-4 c = omega (arith, character-digit (c .before .before .before .before .args .x % 64) (omega arith) (omega arith))
-
-returns-5 : tie.Need-returns-5
-returns-5 c = sym (ap character {x = c .before .before .before .before .args .x % 64} {y = 63} (omega arith) ∙ character-slash)
+arm : (k v : ℕ) → v ≡ k → character k ≡ character v
+arm k v e = ap character (sym e)
 
 pub character-spec : {M : Type 1} → statement M
+unfolding character
 character-spec =
     tie.close
     (tie.spec
-    add-result
-    cast-result
-    add-result-2
-    cast-result-2
-    sub-result
-    cast-result-3
-    returns
-    returns-2
-    returns-3
-    returns-4
-    returns-5)
+    (λ c. arm 0 (c .before .args .v) (c .match .keys1))
+    (λ c. arm 1 (c .before .args .v) (c .match .keys2))
+    (λ c. arm 2 (c .before .args .v) (c .match .keys3))
+    (λ c. arm 3 (c .before .args .v) (c .match .keys4))
+    (λ c. arm 4 (c .before .args .v) (c .match .keys5))
+    (λ c. arm 5 (c .before .args .v) (c .match .keys6))
+    (λ c. arm 6 (c .before .args .v) (c .match .keys7))
+    (λ c. arm 7 (c .before .args .v) (c .match .keys8))
+    (λ c. arm 8 (c .before .args .v) (c .match .keys9))
+    (λ c. arm 9 (c .before .args .v) (c .match .keys10))
+    (λ c. arm 10 (c .before .args .v) (c .match .keys11))
+    (λ c. arm 11 (c .before .args .v) (c .match .keys12))
+    (λ c. arm 12 (c .before .args .v) (c .match .keys13))
+    (λ c. arm 13 (c .before .args .v) (c .match .keys14))
+    (λ c. arm 14 (c .before .args .v) (c .match .keys15))
+    (λ c. arm 15 (c .before .args .v) (c .match .keys16))
+    (λ c. arm 16 (c .before .args .v) (c .match .keys17))
+    (λ c. arm 17 (c .before .args .v) (c .match .keys18))
+    (λ c. arm 18 (c .before .args .v) (c .match .keys19))
+    (λ c. arm 19 (c .before .args .v) (c .match .keys20))
+    (λ c. arm 20 (c .before .args .v) (c .match .keys21))
+    (λ c. arm 21 (c .before .args .v) (c .match .keys22))
+    (λ c. arm 22 (c .before .args .v) (c .match .keys23))
+    (λ c. arm 23 (c .before .args .v) (c .match .keys24))
+    (λ c. arm 24 (c .before .args .v) (c .match .keys25))
+    (λ c. arm 25 (c .before .args .v) (c .match .keys26))
+    (λ c. arm 26 (c .before .args .v) (c .match .keys27))
+    (λ c. arm 27 (c .before .args .v) (c .match .keys28))
+    (λ c. arm 28 (c .before .args .v) (c .match .keys29))
+    (λ c. arm 29 (c .before .args .v) (c .match .keys30))
+    (λ c. arm 30 (c .before .args .v) (c .match .keys31))
+    (λ c. arm 31 (c .before .args .v) (c .match .keys32))
+    (λ c. arm 32 (c .before .args .v) (c .match .keys33))
+    (λ c. arm 33 (c .before .args .v) (c .match .keys34))
+    (λ c. arm 34 (c .before .args .v) (c .match .keys35))
+    (λ c. arm 35 (c .before .args .v) (c .match .keys36))
+    (λ c. arm 36 (c .before .args .v) (c .match .keys37))
+    (λ c. arm 37 (c .before .args .v) (c .match .keys38))
+    (λ c. arm 38 (c .before .args .v) (c .match .keys39))
+    (λ c. arm 39 (c .before .args .v) (c .match .keys40))
+    (λ c. arm 40 (c .before .args .v) (c .match .keys41))
+    (λ c. arm 41 (c .before .args .v) (c .match .keys42))
+    (λ c. arm 42 (c .before .args .v) (c .match .keys43))
+    (λ c. arm 43 (c .before .args .v) (c .match .keys44))
+    (λ c. arm 44 (c .before .args .v) (c .match .keys45))
+    (λ c. arm 45 (c .before .args .v) (c .match .keys46))
+    (λ c. arm 46 (c .before .args .v) (c .match .keys47))
+    (λ c. arm 47 (c .before .args .v) (c .match .keys48))
+    (λ c. arm 48 (c .before .args .v) (c .match .keys49))
+    (λ c. arm 49 (c .before .args .v) (c .match .keys50))
+    (λ c. arm 50 (c .before .args .v) (c .match .keys51))
+    (λ c. arm 51 (c .before .args .v) (c .match .keys52))
+    (λ c. arm 52 (c .before .args .v) (c .match .keys53))
+    (λ c. arm 53 (c .before .args .v) (c .match .keys54))
+    (λ c. arm 54 (c .before .args .v) (c .match .keys55))
+    (λ c. arm 55 (c .before .args .v) (c .match .keys56))
+    (λ c. arm 56 (c .before .args .v) (c .match .keys57))
+    (λ c. arm 57 (c .before .args .v) (c .match .keys58))
+    (λ c. arm 58 (c .before .args .v) (c .match .keys59))
+    (λ c. arm 59 (c .before .args .v) (c .match .keys60))
+    (λ c. arm 60 (c .before .args .v) (c .match .keys61))
+    (λ c. arm 61 (c .before .args .v) (c .match .keys62))
+    (λ c. arm 62 (c .before .args .v) (c .match .keys63))
+    (λ c. arm 63 (c .before .args .v) (omega (arith, past 63 (c .before .args .v) (c .match .rest)))))
