@@ -11,6 +11,7 @@ mod published;
 mod reading;
 mod section_edges;
 mod sheet;
+mod text_changes;
 mod text_edges;
 mod text_random;
 mod units;

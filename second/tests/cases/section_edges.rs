@@ -77,3 +77,47 @@ fn random_sections_come_back() {
         assert_eq!(bench.text_to_section(&text, length + extra), Ok(section));
     }
 }
+
+/// The section as text and back, in the room that each needs.
+fn comes_back(bench: &mut Bench, section: &[u8]) {
+    let text = bench.section_to_text(section, 4 * section.len().div_ceil(3));
+    let back = bench.text_to_section(&text.unwrap(), section.len());
+    assert_eq!(back.as_deref(), Ok(section));
+}
+
+/// The same with each bit of one byte changed.
+fn come_back_changed(bench: &mut Bench, section: &[u8], place: usize) {
+    let mut changed = section.to_vec();
+    for bit in 0..8 {
+        changed[place] = section[place] ^ 1 << bit;
+        comes_back(bench, &changed);
+    }
+}
+
+#[test]
+fn sections_come_back_with_every_bit_changed() {
+    let mut bench = Bench::new();
+    for length in 0..=200 {
+        let section = bench.random.bytes(length);
+        comes_back(&mut bench, &section);
+        for place in 0..length {
+            come_back_changed(&mut bench, &section, place);
+        }
+    }
+}
+
+#[test]
+fn every_length_around_the_longest_section() {
+    let mut bench = Bench::new();
+    for length in 4090usize..=4100 {
+        let section = bench.random.bytes(length);
+        if length > 4096 {
+            let answer = bench.section_to_text(&section, 4 * length.div_ceil(3));
+            assert_eq!(answer, Err(SIZE));
+            continue;
+        }
+        for place in (0..length).step_by(512).chain(length - 3..length) {
+            come_back_changed(&mut bench, &section, place);
+        }
+    }
+}

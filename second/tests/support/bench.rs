@@ -16,6 +16,8 @@ pub struct Bench {
     pub random: Random,
     /// How often each answer to the question of acceptance was given.
     pub tally: Tally,
+    /// The same for texts that are read.
+    pub read: Tally,
     /// The same for sections that are asked for their sheets.
     pub to_sheet: Tally,
     /// The same for sheets that are asked for their sections.
@@ -42,6 +44,7 @@ impl Bench {
         Bench {
             random: Random::new(seed()),
             tally: Tally::default(),
+            read: Tally::default(),
             to_sheet: Tally::default(),
             to_section: Tally::default(),
             met: Met::default(),
@@ -71,6 +74,7 @@ impl Bench {
         let call = proved::text_to_section;
         let paste = || pasted_text(text, room);
         self.same_written("text_to_section", text, room, &answer, call, paste);
+        self.read.count(*answer.as_ref().err().unwrap_or(&0));
         answer
     }
 

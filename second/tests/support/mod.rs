@@ -3,6 +3,7 @@
 
 mod bench;
 pub mod built;
+pub mod changes;
 pub mod counts;
 mod damage;
 mod fields;

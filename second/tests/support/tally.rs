@@ -18,6 +18,11 @@ impl Tally {
         self.counts[usize::from(row)]
     }
 
+    /// How often any was given.
+    pub fn all(&self) -> u64 {
+        self.counts.iter().sum()
+    }
+
     /// Prints the counts of these answers, and ends the test where one was given less often than
     /// that.
     pub fn reached(&self, rows: RangeInclusive<u8>, least: u64) {
