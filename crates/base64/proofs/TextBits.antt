@@ -1,12 +1,9 @@
 -- The bits of a text, and of a byte list, as rows of digits: of six bits a character, and of eight bits a byte.
 -- Assumes nothing.
-use mathlib.Core.Path.{_≡_, refl, sym, ap, ap₂, _∙_}
-use mathlib.Core.Bool.{cond}
+use mathlib.Core.Path.{_≡_, sym, ap, ap₂, _∙_}
 use mathlib.Core.List.{List}
 use Prim.Native.Nat.{ℕ, _+_, _-_, _*_, _/_, _%_, _^_, _<_, _≤_}
-use native.Mathlib.Decide.{decLt}
 use native.Mathlib.Omega.{arith}
-use lib.Dec.{ltb}
 use lib.ListN.{length, getD}
 use borrow.Author.Tests.{lt-ltb, le-ltb}
 use Rattle.bits.specs.Bits.{bit, num, byteOf}
@@ -69,12 +66,3 @@ module _ (s : List ℕ) where
   letter-cut q v i a c x is w e h p =
       rw (p, is, ← w) (ap character (num-part-at (bit s) (bit-lt s) (8 * (3 * q)) a 6 c (6 * i) e))
       ∙ sym (characterAt-in i h)
-
-  -- the third character of a last group of r bytes
-  pub third-at : (q v r : ℕ) → v ≡ num (bit s) (8 * (3 * q)) 24 → length s ≡ 3 * q + r → 0 < r → r < 3
-      → cond (ltb 1 r) (character (v / 64 % 64)) 61 ≡ characterAt s (4 * q + 2)
-  third-at q v r is n l h =
-      elim (decLt 1 r) [
-        | yes two ↦ rw (lt-ltb 1 r two) (letter-cut q v (4 * q + 2) 12 6 (v / 64) is refl (omega arith) (omega arith) refl)
-        | no one ↦ rw (le-ltb 1 r (omega arith)) (sym (characterAt-past (4 * q + 2) (omega arith)))
-      ]

@@ -20,8 +20,12 @@ pub fn to_section(text: &[u8], out: &mut [u8]) -> Written
     if MOST_TEXT < n {
         return Written::Refused(Refusal::TextLen);
     }
-    if n <= 256 {
-        let mut own = [0u8; 192];
+    if n <= 128 {
+        let mut own = [0u8; 96];
+        return decode::read_in(text, &mut own, out);
+    }
+    if n <= 1024 {
+        let mut own = [0u8; 768];
         return decode::read_in(text, &mut own, out);
     }
     let mut own = [0u8; MOST_TEXT_BYTES];

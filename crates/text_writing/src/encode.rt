@@ -107,20 +107,23 @@ fn put_groups(section: &[u8], out: &mut [u8], n: usize)
         let a = there(section, 3 * q);
         let b = there(section, 3 * q + 1);
         let c = there(section, 3 * q + 2);
-        out[4 * q] = character(a / 4);
-        out[4 * q + 1] = character(a % 4 * 16 + b / 16);
-        out[4 * q + 2] = character(b % 16 * 4 + c / 64);
-        out[4 * q + 3] = character(c % 64);
+        let first = character(a / 4);
+        let second = character(a % 4 * 16 + b / 16);
+        let third = character(b % 16 * 4 + c / 64);
+        let fourth = character(c % 64);
+        out[4 * q] = first;
+        out[4 * q + 1] = second;
+        out[4 * q + 2] = third;
+        out[4 * q + 3] = fourth;
         q += 1;
     }
 }
 
-// The third character of a last group: that of v, or `=` where the group has one byte.
-fn third(v: u8, bytes: usize) -> u8
-    requires { ⌜ v < 64 ⌝ }
-    ensures { λ r. ⌜ r ≡ cond (ltb 1 bytes) (character v) 61 ⌝ }
+// The third character of a last group: `=` where the group has one byte.
+fn padded(c: u8, bytes: usize) -> u8
+    ensures { λ r. ⌜ r ≡ cond (ltb 1 bytes) c 61 ⌝ }
 {
-    if 1 < bytes { character(v) } else { b'=' }
+    if 1 < bytes { c } else { b'=' }
 }
 
 // The text of the section, written to the front of out; a last group of one or two bytes is padded.
@@ -134,10 +137,13 @@ pub(crate) fn put(section: &[u8], out: &mut [u8])
     if left == 0 {
         return;
     }
-    let a = byte(section, 3 * whole);
+    let a = there(section, 3 * whole);
     let b = byte(section, 3 * whole + 1);
-    out[4 * whole] = character(a / 4);
-    out[4 * whole + 1] = character(a % 4 * 16 + b / 16);
-    out[4 * whole + 2] = third(b % 16 * 4, left);
+    let first = character(a / 4);
+    let second = character(a % 4 * 16 + b / 16);
+    let third = character(b % 16 * 4);
+    out[4 * whole] = first;
+    out[4 * whole + 1] = second;
+    out[4 * whole + 2] = padded(third, left);
     out[4 * whole + 3] = b'=';
 }

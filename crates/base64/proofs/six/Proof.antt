@@ -1,20 +1,23 @@
 -- `base64::six` meets its contract: each arm has the number that the definition computes to at its byte. Assumes nothing.
-use mathlib.Core.Path.{_≡_, sym, ap}
-use Prim.Native.Nat.{ℕ}
+use mathlib.Core.Path.{_≡_, ap}
+use Prim.Native.Nat.{ℕ, _+_}
 use native.Mathlib.Omega.{arith}
 use Rattle.base64.specs.Base64.{sextet, six}
 use Rattle.base64.proofs.Arms.{past}
 use Rattle.base64.proofs.six.Statement.{statement}
 use Rattle.base64.proofs.six.Tie as tie
 
-arm : (k c : ℕ) → c ≡ k → six k ≡ six c
-arm k c e = ap six (sym e)
+arm : (k c : ℕ) → c + 256 ≡ k + 256 → six k ≡ six c
+arm k c e =
+    let same : k ≡ c = omega (arith, e) in
+    ap six same
 
 pub six-spec : {M : Type 1} → statement M
 unfolding six sextet
 six-spec =
     tie.close
     (tie.spec
+    (λ c. omega arith)
     (λ c. arm 0 (c .before .args .c) (c .match .keys1))
     (λ c. arm 1 (c .before .args .c) (c .match .keys2))
     (λ c. arm 2 (c .before .args .c) (c .match .keys3))
@@ -270,4 +273,4 @@ six-spec =
     (λ c. arm 252 (c .before .args .c) (c .match .keys253))
     (λ c. arm 253 (c .before .args .c) (c .match .keys254))
     (λ c. arm 254 (c .before .args .c) (c .match .keys255))
-    (λ c. arm 255 (c .before .args .c) (omega (arith, past 255 (c .before .args .c) (c .match .rest)))))
+    (λ c. arm 255 (c .before .args .c) (omega (arith, past 256 255 (c .before .args .c + 256) (omega arith) (c .match .rest)))))

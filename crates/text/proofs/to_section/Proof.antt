@@ -18,6 +18,9 @@ returns-2 c =
 read-in-requires : tie.Need-read-in-requires
 read-in-requires c κs = search needs
 
+read-in-requires-2 : tie.Need-read-in-requires-2
+read-in-requires-2 c κs = search needs
+
 pub to-section-spec : {M : Type 1} → statement M
 to-section-spec =
     tie.close
@@ -26,6 +29,10 @@ to-section-spec =
     returns-2
     (λ c. search needs)
     read-in-requires
+    (λ c. search needs)
+    (λ c. search needs)
+    (λ c. search needs)
+    read-in-requires-2
     (λ c. search needs)
     (λ c. search needs)
     (λ c. search needs)

@@ -2,9 +2,8 @@
 -- left of the four.
 -- Assumes nothing.
 use mathlib.Core.Path.{_≡_, refl, sym, ap, _∙_}
-use Prim.Native.Nat.{ℕ, _+_, _-_, _<_, _≤_}
+use Prim.Native.Nat.{_+_, _-_, _≤_}
 use native.Mathlib.Omega.{arith}
-use lib.ListN.{getD}
 use Rattle.base64.specs.Base64.{six}
 use Rattle.text.specs.Groups.{plain, worth}
 use Rattle.text.proofs.Groups.{worth-none, worth-more, room, laid, plain-in}

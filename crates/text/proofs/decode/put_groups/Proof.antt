@@ -5,11 +5,11 @@ use mathlib.Core.Path.{_≡_, refl, sym, _∙_}
 use mathlib.Core.Bool.{false≢true}
 use Prim.Native.Nat.{ℕ, _+_, _-_, _*_, _^_, _<_, _≤_}
 use native.Mathlib.Omega.{arith}
-use lib.ListN.{length, getD, length-set, take}
+use lib.ListN.{length, getD, length-set}
 use Rattle.bits.specs.Bits.{run, byteOf, bytesOf}
 use Rattle.units.specs.Answers.{memory}
 use Rattle.base64.specs.Base64.{sextet}
-use Rattle.text.specs.Text.{before, textBit, allOf}
+use Rattle.text.specs.Text.{before, textBit}
 use Rattle.base64.proofs.AllOf.{all-each}
 use Rattle.base64.proofs.Counts.{before-le}
 use Rattle.base64.proofs.Padding.{padding-le}

@@ -79,4 +79,4 @@ character-spec =
     (λ c. arm 60 (c .before .args .v) (c .match .keys61))
     (λ c. arm 61 (c .before .args .v) (c .match .keys62))
     (λ c. arm 62 (c .before .args .v) (c .match .keys63))
-    (λ c. arm 63 (c .before .args .v) (omega (arith, past 63 (c .before .args .v) (c .match .rest)))))
+    (λ c. arm 63 (c .before .args .v) (omega (arith, past 0 63 (c .before .args .v) (omega arith) (c .match .rest)))))
