@@ -8,7 +8,8 @@
  * keeps a pointer or has a state of its own, so any number of threads may call them.
  *
  * Stack. Measured on x86-64 and on Arm, and not proved (docs/BENCHMARKS.md): timpanimist_sheet_to_section takes 72 KiB,
- * timpanimist_section_to_sheet 35 KiB, the three functions on lines 5 KiB each, and every other function less than 1 KiB.
+ * timpanimist_section_to_sheet 35 KiB, timpanimist_text_to_section 5 KiB, the three functions on lines 10 KiB each,
+ * and every other function less than 1 KiB.
  *
  * Answers. Every input has an answer, and nothing but the above is asked of the caller. A function with an `out` returns
  * one number: how many elements it wrote, or 2^63 plus the number of a refusal. Even the bill label, which is never refused

@@ -105,6 +105,7 @@ fn stack_of_the_header() {
         let most = match &question[..] {
             "sheet to section" => told("timpanimist_sheet_to_section takes "),
             "section to sheet" => told("timpanimist_section_to_sheet "),
+            "text to section" => told("timpanimist_text_to_section "),
             "line" | "lines and last line" => told("the three functions on lines "),
             _ => told("every other function less than "),
         };
