@@ -1,9 +1,8 @@
 // From text to bytes, four characters at a time: a group is looked at once, tested once, and gives its three bytes. They go to
 // memory of the reader's own, since the lent memory stays as it was until the whole text has passed.
 ghost use mathlib.Core.Path.{_≡_};
-ghost use mathlib.Core.Bool.{Bool, true, cond};
+ghost use mathlib.Core.Bool.{true};
 ghost use Prim.Native.Nat.{_+_, _*_, _/_, _%_, _<_, _≤_};
-ghost use lib.Dec.{ltb};
 ghost use lib.ListN.{length, getD, take};
 ghost use Rattle.bits.specs.Bits.{bytesOf};
 ghost use Rattle.units.specs.Answers.{memory};
