@@ -10,7 +10,10 @@ pub use bits_writing::write;
 pub fn flag(s: &[u8], at: usize) -> bool
     ensures { λ r. ⌜ r ≡ flagOf (now (s .entry)) at ⌝ }
 {
-    bit_fields::read(s, at, 1) == 1
+    if s.len() <= at / 8 {
+        return false;
+    }
+    (s[at / 8] >> (7 - at % 8)) % 2 == 1
 }
 
 // Byte i; 0 where it is not there.
