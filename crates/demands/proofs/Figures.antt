@@ -20,7 +20,8 @@ use Rattle.grammar.specs.Names.{look}
 use Rattle.commands.specs.Command.{known, commandEnd}
 use Rattle.section.specs.declared.Verdict.{Verdict}
 use Rattle.section.specs.Accept.{the, grammarOf, breaks, complete, acceptRows, acceptRow, verdict, acceptOf}
-use Rattle.opening.specs.First.{loopFrom, ifAccepted, firstCursor, openRow, opened, openOf, asked}
+use Rattle.section.specs.Judge.{loopFrom}
+use Rattle.opening.specs.First.{ifAccepted, firstCursor, openRow, opened, openOf, asked}
 use Rattle.sheet.specs.Sheet.{sectionTrace, sheetOf}
 use Rattle.command_reading.specs.Command.{commandReading, typed, commandTrace, commandOf, whereRead}
 use Rattle.command_reading.specs.Command as Commands

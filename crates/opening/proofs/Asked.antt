@@ -13,10 +13,13 @@ use Rattle.section.specs.declared.Verdict.{Verdict}
 use Rattle.section.specs.declared.Verdict.the-variants.{Accepted}
 use Rattle.opening.specs.declared.Opened.{Opened}
 use Rattle.opening.specs.declared.Opened.the-variants.{Open}
+use Rattle.commands.specs.Command.{commandEnd}
+use Rattle.section.specs.declared.Judgement.{Judgement}
 use Rattle.section.specs.Accept.{the, acceptRow, verdict, acceptOf}
-use Rattle.opening.specs.First.{nowhere, firstCursor, openRow, opened, openOf, asked}
+use Rattle.section.specs.Judge.{nowhere, loopFrom, judgement, judgeOf}
+use Rattle.opening.specs.First.{firstCursor, openRow, opened, openOf, asked}
 use Rattle.section.proofs.Accepted.{accepted-row}
-use Rattle.opening.proofs.Start.{no-section, when-sealed}
+use Rattle.opening.proofs.Start.{no-section, when-sealed, when-clear}
 
 -- a row that refuses the section refuses the question
 same-row : (n m : ℕ) (r : Refusal) (c : Cursor) → verdict n ≡ Verdict.Refused r → opened (orElse n m) c ≡ Opened.Refused r
@@ -77,6 +80,33 @@ module _ (s : List ℕ) where
       go : (v : Verdict) → acceptOf s ≡ v → firstCursor s ≡ nowhere
       go Accepted a = by-seal (eqb (the s "encrypted_packet") 1) refl a
       go (Verdict.Refused q) a = no-section s q a
+
+-- ---- by what acceptance came upon
+
+-- the judgement of a section as the answer of opening it
+abbrev pub openedAs : Judgement → Opened
+openedAs (Judgement.Open c) = Open c
+openedAs Judgement.Sealed = Opened.Refused Refusal.Sealed
+openedAs (Judgement.Refused r) = Opened.Refused r
+
+judged-as : (s : List ℕ) (v : Verdict) → acceptOf s ≡ v
+    → judgeOf s ≡ judgement v (eqb (the s "encrypted_packet") 1) (loopFrom s (commandEnd s))
+unfolding judgeOf
+judged-as s v e = ap (λ (x : Verdict). judgement x (eqb (the s "encrypted_packet") 1) (loopFrom s (commandEnd s))) e
+
+pub by-judgement : (s : List ℕ) → openedAs (judgeOf s) ≡ openOf s
+by-judgement s = go (acceptOf s) refl
+  where
+    c : Cursor
+    c = loopFrom s (commandEnd s)
+
+    clear-or-not : (b : Bool) → eqb (the s "encrypted_packet") 1 ≡ b → acceptOf s ≡ Accepted → openedAs (judgement Accepted b c) ≡ openOf s
+    clear-or-not true h a = sym (sealed-open s a h)
+    clear-or-not false h a = sym (open-first s a h ∙ ap Open (when-clear s a h))
+
+    go : (v : Verdict) → acceptOf s ≡ v → openedAs (judgeOf s) ≡ openOf s
+    go Accepted a = ap openedAs (judged-as s Accepted a) ∙ clear-or-not (eqb (the s "encrypted_packet") 1) refl a
+    go (Verdict.Refused r) a = ap openedAs (judged-as s (Verdict.Refused r) a) ∙ sym (refused-open s r a)
 
 -- ---- the answer of a question
 

@@ -17,7 +17,9 @@ use Rattle.units.specs.declared.refusals.Refusal.{Refusal}
 use Rattle.section.specs.declared.Verdict.{Verdict}
 use Rattle.section.specs.declared.Verdict.the-variants.{Accepted, Refused}
 use Rattle.section.specs.Accept.{the, acceptOf}
-use Rattle.opening.specs.First.{nowhere, loopFrom, ifAccepted, firstCursor}
+use Rattle.section.specs.Judge.{nowhere, loopAt, loopFrom}
+use Rattle.section.proofs.Judged.{loop-after}
+use Rattle.opening.specs.First.{ifAccepted, firstCursor}
 
 -- where the command ends, in bytes that are enough for a section
 pub command-run : (s : List ℕ) → 20 ≤ length s → commandEnd s ≡ run sized-command (known s) (bit s) (8 * (length s - 4)) (8 * 14)
@@ -47,13 +49,8 @@ module _ (s : List ℕ) where
     when-sealed h = sealed-as true h
 
     module _ (h : eqb (the s "encrypted_packet") 1 ≡ false) where
-      pub no-command : (n : ℕ) → commandEnd s ≡ breach n → firstCursor s ≡ nowhere
-      unfolding loopFrom
-      no-command n q = sealed-as false h ∙ ap (loopFrom s) q
+      pub when-clear : firstCursor s ≡ loopFrom s (commandEnd s)
+      when-clear = sealed-as false h
 
-      pub after-command : (n : ℕ) → commandEnd s ≡ ends (8 * n)
-          → firstCursor s ≡ record { at = n + 2; end = n + 2 + num (bit s) (8 * n) 16 }
-      unfolding loopFrom
-      after-command n q =
-          let byte : 8 * n / 8 ≡ n = omega arith in
-          sealed-as false h ∙ ap (loopFrom s) q ∙ ap (λ (i : ℕ). record { at = i + 2; end = i + 2 + num (bit s) (8 * n) 16 }) byte
+      pub after-command : (n : ℕ) → commandEnd s ≡ ends (8 * n) → firstCursor s ≡ loopAt s n
+      after-command n q = when-clear ∙ loop-after s n q

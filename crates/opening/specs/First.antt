@@ -1,12 +1,10 @@
 -- The cursor of a section's first descriptor, where the walk over its descriptors starts; whether a section can be asked, and what a
 -- question on it answers.
 -- Assumes nothing.
-use Prim.Native.Nat.{ℕ, zero, suc, _+_, _/_}
+use Prim.Native.Nat.{ℕ, zero, suc}
 use mathlib.Core.Bool.{cond}
 use mathlib.Core.List.{List, [], _∷_}
 use lib.Dec.{eqb}
-use Rattle.bits.specs.Bits.{bit, num}
-use Rattle.grammar.specs.Meaning.{Outcome, breach, ends}
 use Rattle.commands.specs.Command.{commandEnd}
 use Rattle.units.specs.declared.refusals.Refusal.{Refusal}
 use Rattle.descriptors.specs.declared.Cursor.{Cursor}
@@ -16,15 +14,7 @@ use Rattle.opening.specs.declared.Opened.{Opened}
 use Rattle.opening.specs.declared.Opened.the-variants.{Open}
 use Rattle.units.specs.Refusals.{named, first, orElse}
 use Rattle.section.specs.Accept.{the, acceptRow, acceptOf}
-
--- the cursor with nothing to walk over
-abbrev pub nowhere : Cursor
-nowhere = record { at = 0; end = 0 }
-
--- the loop after a command that ends as the outcome says: the two bytes of descriptor_loop_length, and then as many as these say
-unfoldable pub loopFrom : List ℕ → Outcome → Cursor
-loopFrom s (breach n) = nowhere
-loopFrom s (ends k) = record { at = k / 8 + 2; end = k / 8 + 2 + num (bit s) k 16 }
+use Rattle.section.specs.Judge.{nowhere, loopFrom}
 
 -- a cursor of an accepted section, none of a refused one
 unfoldable pub ifAccepted : Verdict → Cursor → Cursor

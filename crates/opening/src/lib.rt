@@ -2,8 +2,7 @@
 ghost use mathlib.Core.Path.{_≡_};
 ghost use Rattle.opening.specs.First.{firstCursor, openOf};
 use descriptors::Cursor;
-use grammar::Ended;
-use section::Verdict;
+use section::Judgement;
 use units::Refusal;
 
 // Open, with the cursor of its first descriptor, or why not.
@@ -16,21 +15,11 @@ pub enum Opened {
 pub fn open(s: &[u8]) -> Opened
     ensures { λ r. ⌜ r ≡ openOf (now (s .entry)) ⌝ }
 {
-    if let Verdict::Refused(refusal) = section::accept(s) {
-        return Opened::Refused(refusal);
+    match section::judge(s) {
+        Judgement::Open(cursor) => Opened::Open(cursor),
+        Judgement::Sealed => Opened::Refused(Refusal::Sealed),
+        Judgement::Refused(refusal) => Opened::Refused(refusal),
     }
-    // encrypted_packet is the top bit
-    if 128 <= s[4] {
-        return Opened::Refused(Refusal::Sealed);
-    }
-    let Ended::At(at) = commands::command_end(s) else {
-        return Opened::Open(Cursor { at: 0, end: 0 });
-    };
-    let descriptor_loop_length = bits::pair(s, at) as usize;
-    Opened::Open(Cursor {
-        at: at + 2,
-        end: at + 2 + descriptor_loop_length,
-    })
 }
 
 // The cursor of the section's first descriptor. Empty where the bytes are no section, and where the section is sealed.

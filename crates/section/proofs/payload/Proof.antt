@@ -1,7 +1,7 @@
 -- `section::payload` meets its contract: the command within its rule, and then the loop.
 -- Assumes nothing.
 use mathlib.Core.Path.{_≡_, refl, sym, ap, _∙_}
-use mathlib.Core.Bool.{Bool, cond}
+use mathlib.Core.Bool.{Bool, false, cond}
 use Prim.Native.Nat.{_-_, _*_}
 use native.Mathlib.Omega.{arith}
 use lib.ListN.{length}
@@ -13,6 +13,8 @@ use Rattle.grammar.specs.Ended.{outcome}
 use Rattle.grammar.proofs.Run.{pass, ruled}
 use Rattle.grammar.proofs.Within.{byte-within}
 use Rattle.commands.specs.Command.{known, commandEnd}
+use Rattle.section.specs.Judge.{judgement, verdictIn}
+use Rattle.section.proofs.Judged.{loop-after}
 use borrow.Author.Needs.{needs}
 use Rattle.section.proofs.payload.Statement.{statement}
 use Rattle.section.proofs.payload.Tie as tie
@@ -41,7 +43,7 @@ returns : tie.Need-returns
 unfolding payload known
 returns c =
     let t = c .before .before in
-    (pass (omega arith) (ruled (record { runs = commanded t ∙ ap outcome (c .enum-told .given .1) }) refl), omega arith)
+    (pass (omega arith) (ruled (record { runs = commanded t ∙ ap outcome (c .enum-told .given .1) }) refl), omega arith, refl)
 
 descriptor-loop-requires : tie.Need-descriptor-loop-requires
 descriptor-loop-requires c κs =
@@ -53,7 +55,11 @@ returns-2 : tie.Need-returns-2
 unfolding payload known
 returns-2 c =
     let t = c .before .before .before .before in
-    (pass (omega arith) (ruled (record { runs = commanded t ∙ ap outcome (c .before .before .at .given .1) }) (c .descriptor-loop .ensures .0 _ .runs)), c .descriptor-loop .ensures .1)
+    (
+      pass (omega arith) (ruled (record { runs = commanded t ∙ ap outcome (c .before .before .at .given .1) }) (c .descriptor-loop .ensures .0 _ .runs)),
+      c .descriptor-loop .ensures .1,
+      c .descriptor-loop .ensures .2 ∙ ap (judgement (verdictIn (c .descriptor-loop .result)) false) (sym (loop-after _ _ (sym (t .command-end .ensures) ∙ ap outcome (c .before .before .at .given .1)))),
+    )
 
 pub payload-spec : {M : Type 1} → statement M
 payload-spec =
