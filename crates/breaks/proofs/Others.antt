@@ -8,7 +8,7 @@ use denote.Enum.Declared.{tagOf}
 use Rattle.command_reading.specs.declared.answers.Command.{Command}
 use Rattle.command_reading.proofs.answers.Command as declared-command
 use Rattle.descriptor_reading.specs.declared.answers.Descriptor.{Descriptor}
-use Rattle.signals.specs.declared.Break.{Break}
+use Rattle.breaks.specs.declared.Break.{Break}
 use Rattle.breaks.specs.declared.dash.DashDuration.{DashDuration}
 use Rattle.breaks.specs.Breaks.{breakBy}
 use Rattle.breaks.specs.Dash.{dashBy}

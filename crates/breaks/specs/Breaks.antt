@@ -12,8 +12,8 @@ use Rattle.command_reading.specs.declared.answers.Insert.{Insert}
 use Rattle.command_reading.specs.declared.answers.Command.{Command}
 use Rattle.command_reading.specs.Command.{command}
 use Rattle.descriptor_reading.specs.declared.answers.Descriptor.{Descriptor}
-use Rattle.signals.specs.declared.Break.{Break}
-use Rattle.signals.specs.Signals.{knownReadings, signalBreak}
+use Rattle.breaks.specs.declared.Break.{Break}
+use Rattle.breaks.specs.Signals.{knownReadings, signalBreak}
 
 -- as long as an insert's break_duration says; without one it has no measure, and is never one of zero ticks
 abbrev pub lastingBreak : BreakDuration → Break

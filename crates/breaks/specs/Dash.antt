@@ -6,8 +6,8 @@ use Rattle.opening.specs.First.{openOf, asked}
 use Rattle.command_reading.specs.declared.answers.Command.{Command}
 use Rattle.command_reading.specs.Command.{command}
 use Rattle.descriptor_reading.specs.declared.answers.Descriptor.{Descriptor}
-use Rattle.signals.specs.declared.Measure.{Measure}
-use Rattle.signals.specs.Signals.{knownReadings, signalOf}
+use Rattle.breaks.specs.declared.signal.Measure.{Measure}
+use Rattle.breaks.specs.Signals.{knownReadings, signalOf}
 use Rattle.breaks.specs.declared.dash.DashDuration.{DashDuration}
 
 -- so long, or none where no descriptor carries a duration; one of 0 ticks is a duration

@@ -1,2 +1,3 @@
+pub mod Signals
 pub mod Breaks
 pub mod Dash

@@ -1,12 +1,13 @@
 // How long the DASH event of a section lasts: the DVB sentence about the longest duration, which does not bill.
 ghost use mathlib.Core.Path.{_≡_};
 ghost use Rattle.command_reading.specs.Command as command_says;
-ghost use Rattle.signals.specs.Signals.{knownReadings};
+ghost use Rattle.opening.proofs.Asked.{IsOpen};
+ghost use Rattle.breaks.specs.Signals.{knownReadings};
 ghost use Rattle.breaks.specs.Dash.{dashOf, dashBy, dashDuration};
-use command_reading::Command;
+use crate::signal::Measure;
+use crate::signal::walk;
 use descriptors::Cursor;
 use opening::Opened;
-use signals::Measure;
 use units::Refusal;
 use units::Ticks;
 
@@ -27,19 +28,18 @@ pub fn dash_duration(section: &[u8]) -> DashDuration
     }
 }
 
-// That of an open section, by its command.
+// That of an open section: only a time signal has one.
 fn open_dash(s: &[u8], cursor: Cursor) -> DashDuration
+    requires { ⌜ IsOpen (now s) cursor ⌝ }
     ensures { λ r. ⌜ r ≡ dashBy (command_says.command (now (s .entry))) (knownReadings (now (s .entry)) cursor) ⌝ }
 {
-    match command_reading::command(s) {
-        Command::TimeSignal(_) => {
-            let signal = signals::walk(s, cursor);
-            let longest = signal.longest;
-            lasting(longest)
-        }
-        Command::Refused(refusal) => DashDuration::Refused(refusal),
-        _ => DashDuration::None,
+    // splice_command_type
+    if s[13] != 0x06 {
+        return DashDuration::None;
     }
+    let signal = walk(s, cursor);
+    let longest = signal.longest;
+    lasting(longest)
 }
 
 // One of 0 ticks is a duration.

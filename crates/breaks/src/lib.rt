@@ -1,19 +1,36 @@
 // The break of a section: whether it opens one, and how long that lasts. And the duration of its DASH event.
 mod dash;
+mod signal;
 
 ghost use mathlib.Core.Path.{_≡_};
+ghost use mathlib.Core.List.{List};
+ghost use Prim.Native.Nat.{_≤_};
+ghost use lib.ListN.{length};
+ghost use Rattle.descriptor_reading.specs.declared.answers.Descriptor.{Descriptor};
+ghost use Rattle.command_reading.specs.Places.{insertAt};
 ghost use Rattle.command_reading.specs.Command as command_says;
-ghost use Rattle.signals.specs.Signals.{knownReadings};
-ghost use Rattle.breaks.specs.Breaks.{insertBreak, refusedBreak, breakBy, breakAnswer};
-use command_reading::BreakDuration;
-use command_reading::Command;
-use command_reading::Insert;
+ghost use Rattle.opening.proofs.Asked.{IsOpen};
+ghost use Rattle.breaks.specs.Signals.{knownReadings};
+ghost use Rattle.breaks.specs.Breaks.{refusedBreak, breakBy, breakAnswer};
 pub use dash::DashDuration;
 pub use dash::dash_duration;
 use descriptors::Cursor;
 use opening::Opened;
-use signals::Break;
+pub use signal::Measure;
+pub use signal::Signal;
 use units::Refusal;
+use units::Ticks;
+
+// Whether a cue opens a break, and how long it lasts.
+pub enum Break {
+    None,
+    Measured(Ticks),
+    // A break whose cue says no duration.
+    Unmeasured,
+    // Sealed, or a command of a type that the standard does not have.
+    Unread,
+    Refused(Refusal),
+}
 
 // Whether the section opens a break, and how long it lasts.
 pub fn break_answer(section: &[u8]) -> Break
@@ -36,32 +53,35 @@ fn refused_break(refusal: Refusal) -> Break
     }
 }
 
-// The break of an open section, by its command.
+// The break of an open section, by splice_command_type. Its command ends before the two bytes of descriptor_loop_length.
 fn open_break(s: &[u8], cursor: Cursor) -> Break
+    requires { ⌜ IsOpen (now s) cursor ⌝ }
     ensures { λ r. ⌜ r ≡ breakBy (command_says.command (now (s .entry))) (knownReadings (now (s .entry)) cursor) ⌝ }
 {
-    match command_reading::command(s) {
-        Command::Insert(insert) => insert_break(insert),
-        Command::TimeSignal(_) => signals::signal_break(s, cursor),
-        Command::Unread => Break::Unread,
-        Command::Refused(refusal) => Break::Refused(refusal),
-        _ => Break::None,
+    match s[13] {
+        0x05 => insert_break(s, cursor.at - 2),
+        0x06 => signal::walk(s, cursor).opening(),
+        0x00 | 0x04 | 0x07 | 0xFF => Break::None,
+        _ => Break::Unread,
     }
 }
 
-fn insert_break(insert: Insert) -> Break
-    ensures { λ r. ⌜ r ≡ insertBreak insert ⌝ }
+// The break of the insert that stands from byte 14 up to `end`.
+fn insert_break(s: &[u8], end: usize) -> Break
+    requires { ⌜ (9 ≤ end) × (end ≤ length (now s)) × (length (now s) ≤ 4096) ⌝ }
+    ensures { λ r. ⌜ ((ds : List Descriptor) → r ≡ breakBy (insertAt (now (s .entry)) end) ds) ⌝ }
 {
-    if !insert.out_of_network_indicator {
+    // splice_event_cancel_indicator
+    if bits::flag(s, 144) {
         return Break::None;
     }
-    let avails = insert.avails;
-    let break_duration = avails.break_duration;
-    match break_duration {
-        BreakDuration::Absent => Break::Unmeasured,
-        BreakDuration::Present {
-            auto_return: _,
-            duration,
-        } => Break::Measured(duration),
+    // out_of_network_indicator
+    if !bits::flag(s, 152) {
+        return Break::None;
     }
+    // duration_flag
+    if !bits::flag(s, 154) {
+        return Break::Unmeasured;
+    }
+    Break::Measured(Ticks(bits::read(s, 8 * (end - 9) + 7, 33)))
 }

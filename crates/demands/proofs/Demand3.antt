@@ -40,7 +40,7 @@ use Rattle.descriptor_reading.specs.Descriptor.{descriptorOf, dtmfCharOf, segme
 use Rattle.descriptor_reading.specs.Descriptor as Descriptors
 use Rattle.known_walk.proofs.EachStands.{each-stands}
 use Rattle.reading.specs.Reading as Asks
-use Rattle.signals.specs.Signals.{knownReadings}
+use Rattle.breaks.specs.Signals.{knownReadings}
 use Rattle.breaks.specs.Breaks.{breakBy, refusedBreak}
 use Rattle.breaks.specs.Breaks as Breaks
 use Rattle.breaks.specs.declared.dash.DashDuration.{DashDuration}

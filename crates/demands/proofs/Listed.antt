@@ -27,7 +27,7 @@ use Rattle.reading.specs.Reading.{upid, partOf, upidBytes}
 use Rattle.opening.proofs.Asked.{when-open}
 use Rattle.reading.proofs.UpidBytes.{part-values}
 use Rattle.labels.specs.declared.answers.Label.{Label}
-use Rattle.signals.specs.Signals.{readAt}
+use Rattle.breaks.specs.Signals.{readAt}
 use Rattle.labels.specs.Labels.{labelled, labelAt, labelOf}
 use Rattle.demands.specs.OneCue.{unplaced}
 use Rattle.grammar.proofs.Blank.{look-blank, all-blank}

@@ -26,9 +26,9 @@ use Rattle.command_reading.specs.declared.answers.Command.{Command}
 use Rattle.command_reading.specs.Command.{isType, timeOf, insertOf, commandTrace, commandOf}
 use Rattle.command_reading.specs.Command as Commands
 use Rattle.descriptor_reading.specs.declared.answers.Descriptor.{Descriptor}
-use Rattle.signals.specs.declared.Break.{Break}
-use Rattle.signals.specs.declared.Measure.{Measure}
-use Rattle.signals.specs.Signals.{knownReadings, lasting, signalOf, signalBreak}
+use Rattle.breaks.specs.declared.Break.{Break}
+use Rattle.breaks.specs.declared.signal.Measure.{Measure}
+use Rattle.breaks.specs.Signals.{knownReadings, lasting, signalOf, signalBreak}
 use Rattle.breaks.specs.Breaks.{lastingBreak, insertBreak, breakBy, refusedBreak}
 use Rattle.breaks.specs.Breaks as Breaks
 use Rattle.demands.proofs.Demand3.{command-is}

@@ -1,14 +1,17 @@
 -- The kind of a descriptor: what the identifier and the tag say of it, and that its table is read.
 -- Assumes nothing.
-use mathlib.Core.Path.{_≡_, refl, ap, _∙_, subst}
+use mathlib.Core.Path.{_≡_, refl, sym, ap, _∙_, subst}
 use mathlib.Core.Bool.{Bool, cond}
 use mathlib.Core.List.{List}
 use Prim.Native.Nat.{ℕ, _+_, _*_, _<_}
 use native.Mathlib.Omega.{arith}
 use lib.Dec.{eqb}
-use lib.ListN.{getD}
+use lib.ListN.{length, getD}
 use borrow.Author.Tests.{eq-eqb, ne-eqb}
 use Rattle.bits.specs.Bits.{bit, num}
+use Rattle.bits.proofs.Num.{num-split}
+use Rattle.bits.proofs.Digits.{zeros}
+use Rattle.bits.proofs.Bytes.{bit-past}
 use Rattle.grammar.specs.Syntax.{is, done, branch}
 use Rattle.grammar.specs.Meaning.{Env, valueOf, Outcome}
 use Rattle.grammar.specs.Tables.{bytes, known-descriptor}
@@ -30,6 +33,13 @@ own s at tag same byte e =
 pub foreign : (s : List ℕ) (at : ℕ) → (num (bit s) (8 * (at + 2)) 32 ≡ 0x43554549 → ⊥) → kindOf s at ≡ Unknown
 unfolding kindOf
 foreign s at other = ap (λ (t : Bool). cond t (byTag (num (bit s) (8 * at) 8)) Unknown) (ne-eqb _ 0x43554549 other)
+
+-- where the bytes end before the identifier does, its last byte is 0, and not "I"
+pub too-few : (s : List ℕ) (at : ℕ) → length s < at + 6 → kindOf s at ≡ Unknown
+too-few s at h =
+    let last : num (bit s) (8 * (at + 2) + 24) 8 ≡ 0 =
+    zeros (bit s) (8 * (at + 2) + 24) 8 (λ j l. bit-past s (8 * (at + 2) + 24 + j) (omega arith)) in
+    foreign s at (λ e. omega (arith, sym e ∙ num-split (bit s) (8 * (at + 2)) 24 8, last))
 
 pub no-tag : (t : ℕ) → 4 < t → byTag t ≡ Unknown
 unfolding byTag

@@ -78,7 +78,20 @@ impl Cursor {
     }
 }
 
-// The kind of the descriptor at `at`, whose identifier is there.
+// The kind of the descriptor that stands from byte `at` on; unknown where these bytes are too few for an identifier.
+pub fn kind_of(s: &[u8], at: usize) -> Kind
+    ensures { λ r. ⌜ r ≡ kindOf (now (s .entry)) at ⌝ }
+{
+    if s.len() < 6 {
+        return Kind::Unknown;
+    }
+    if s.len() - 6 < at {
+        return Kind::Unknown;
+    }
+    kind_at(s, at)
+}
+
+// The same where its identifier is there.
 fn kind_at(s: &[u8], at: usize) -> Kind
     requires { ⌜ at + 6 ≤ length (now s) ⌝ }
     ensures { λ r. ⌜ r ≡ kindOf (now (s .entry)) at ⌝ }

@@ -3,7 +3,7 @@
 use Prim.Native.Nat.{ℕ}
 use mathlib.Core.List.{[], _∷_}
 use Rattle.units.specs.Refusals.{numberOf}
-use Rattle.signals.specs.declared.Break.{Break}
+use Rattle.breaks.specs.declared.Break.{Break}
 use Rattle.labels.specs.declared.answers.Label.{Label}
 use Rattle.wire.specs.Given.{Numbers, refused, these}
 

@@ -6,7 +6,7 @@ use Rattle.units.specs.declared.refusals.Written.{Written}
 use Rattle.units.specs.Refusals.{named}
 use Rattle.units.specs.Clock.{millisOf}
 use Rattle.text.specs.Text.{readRow, decoded}
-use Rattle.signals.specs.declared.Break.{Break}
+use Rattle.breaks.specs.declared.Break.{Break}
 use Rattle.breaks.specs.Breaks.{breakAnswer}
 use Rattle.spelling.specs.declared.Line.{Line}
 

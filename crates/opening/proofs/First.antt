@@ -10,15 +10,18 @@ use lib.ListN.{length}
 use lib.Dec.{eqb}
 use Rattle.bits.specs.Bits.{bit, num}
 use Rattle.grammar.specs.Syntax.{field, done, fill, under}
-use Rattle.grammar.specs.Meaning.{Env, values, bind, reached, read, endOf, run}
+use Rattle.grammar.specs.Meaning.{Env, values, bind, reached, read, endOf, Outcome, ends, run}
 use Rattle.grammar.specs.Tables.{header, bytes, sized-command, splice-descriptor, descriptor-loop, payload, splice-info-section}
 use Rattle.grammar.specs.Traces.{Trace, size}
+use Rattle.grammar.proofs.Run.{swept, filled-last}
 use Rattle.grammar.proofs.Ends.{covers}
 use Rattle.grammar.proofs.Traces.{size-values, size-append}
 use Rattle.commands.specs.Command.{known}
 use Rattle.descriptors.specs.declared.Cursor.{Cursor}
 use Rattle.descriptors.specs.Loop.{walked, tracesAt}
+use Rattle.descriptors.proofs.Walk.{same-descriptor}
 use Rattle.descriptors.proofs.Loop.{loop-trace}
+use Rattle.descriptors.proofs.Filled.{Filled}
 use Rattle.section.specs.declared.Verdict.the-variants.{Accepted}
 use Rattle.section.specs.Accept.{the, acceptOf}
 use Rattle.opening.specs.First.{firstCursor}
@@ -42,6 +45,8 @@ pub record Laid (s : List ℕ) (c : Cursor) (j : ℕ) (t : Trace) : Type 0 where
   -- what is read as stuffing
   pub stuffing : Trace
   pub starts : c .at ≡ stop + 2
+  -- descriptors fill the loop
+  pub filled : Filled s c
   pub commanded : read sized-command (known s) (bit s) (8 * (length s - 4)) 112 ≡ reached (8 * stop) command
   pub stuffed : read (bytes "alignment_stuffing") (known s) (bit s) (8 * (length s - 4)) (8 * c .end) ≡ reached j stuffing
   pub whole : t ≡ front s stop command ++ (tracesAt s (walked s c) ++ stuffing)
@@ -70,9 +75,22 @@ module _ (s : List ℕ) where
         size-values (field 16 "descriptor_loop_length" ∷ []) (bit s) (8 * n),
       )
 
+  -- a loop that the grammar reads to its end is swept to it
+  filled-by : (c : Cursor) (env : Env) (i : ℕ) (u : Trace) → read (fill splice-descriptor done) env (bit s) (8 * c .end) (8 * c .at) ≡ reached i u
+      → swept (run splice-descriptor [] (bit s) (8 * c .end)) (8 * c .end) (8 * c .at) ≡ ends i
+  unfolding run endOf
+  filled-by c env i u e =
+      let g : ℕ → Outcome = run splice-descriptor env (bit s) (8 * c .end) in
+      let same : run splice-descriptor [] (bit s) (8 * c .end) ≡ g = λ j k. same-descriptor [] env (bit s) (8 * c .end) k j in
+      ap (λ (h : ℕ → Outcome). swept h (8 * c .end) (8 * c .at)) same
+      ∙ sym (filled-last {o = swept g (8 * c .end) (8 * c .at)} refl .runs)
+      ∙ ap endOf e
+
   -- the loop's own reading: its length, and what the walk finds, up to its end
   looped : (n i : ℕ) (u : Trace) → 20 ≤ length s → Reads descriptor-loop (known s) (bit s) (8 * (length s - 4)) (8 * n) i u
-      → (i ≡ 8 * loop n .end) × (u ≡ values (field 16 "descriptor_loop_length" ∷ []) (bit s) (8 * n) ++ tracesAt s (walked s (loop n)))
+      → (i ≡ 8 * loop n .end)
+      × (u ≡ values (field 16 "descriptor_loop_length" ∷ []) (bit s) (8 * n) ++ tracesAt s (walked s (loop n)))
+      × Filled s (loop n)
   unfolding descriptor-loop
   looped n i u long q =
       let rows = rows-parts q in
@@ -84,7 +102,11 @@ module _ (s : List ℕ) where
       let env : Env = bind (field 16 "descriptor_loop_length" ∷ []) (bit s) (8 * n) (known s) in
       let here : read (fill splice-descriptor done) env (bit s) (8 * loop n .end) (8 * loop n .at) ≡ reached i (rows .0) =
       ap₂ (λ (e k : ℕ). read (fill splice-descriptor done) env (bit s) e k) (sym to) (sym from) ∙ body .reads in
-      (part .1 ∙ to, rows .2 ∙ ap (λ (v : Trace). values (field 16 "descriptor_loop_length" ∷ []) (bit s) (8 * n) ++ v) (loop-trace s (loop n) env i (rows .0) (omega arith) here))
+      (
+        part .1 ∙ to,
+        rows .2 ∙ ap (λ (v : Trace). values (field 16 "descriptor_loop_length" ∷ []) (bit s) (8 * n) ++ v) (loop-trace s (loop n) env i (rows .0) (omega arith) here),
+        (omega arith, filled-by (loop n) env i (rows .0) here ∙ ap ends (part .1 ∙ to)),
+      )
 
   -- the parts of the trace, grouped by what they are
   regroup : (a b c d e f : Trace) → a ++ (b ++ (c ++ ((d ++ e) ++ f))) ≡ (a ++ (b ++ (c ++ d))) ++ (e ++ f)
@@ -116,6 +138,7 @@ module _ (s : List ℕ) where
           command = command;
           stuffing = rest .right;
           starts = refl;
+          filled = walk .2;
           commanded = came;
           stuffed = back;
           whole =

@@ -4,7 +4,7 @@ mod answers;
 
 ghost use mathlib.Core.Path.{_≡_};
 ghost use Prim.Native.Nat.{_≤_};
-ghost use Rattle.segmentation_reading.specs.Places.{afterComponents, upidPlace, modeAt, deliveryAt, durationAt, subSegmentsAt, uncancelledAt};
+ghost use Rattle.segmentation_reading.specs.Places.{afterComponents, afterUpid, upidPlace, modeAt, deliveryAt, durationAt, subSegmentsAt, uncancelledAt};
 pub use answers::Delivery;
 pub use answers::Duration;
 pub use answers::Mode;
@@ -21,10 +21,9 @@ pub fn uncancelled(s: &[u8], at: u16, end: usize) -> Segmentation
     let segmentation_event_id = EventId(bits::quad(s, start) as u32);
     let mode = mode(s, start);
     let delivery = delivery(s, start);
-    let duration = duration(s, start);
+    let duration = duration(s, at);
     let upid = upid_place(s, at);
-    let segmentation_upid_length = bits::octet(s, upid + 1);
-    let after = upid + 2 + (segmentation_upid_length as usize);
+    let after = type_place(s, at);
     let segmentation_type_id = bits::octet(s, after);
     let sub_segments = sub_segments(s, segmentation_type_id, after + 3, end);
     Segmentation {
@@ -33,7 +32,7 @@ pub fn uncancelled(s: &[u8], at: u16, end: usize) -> Segmentation
         delivery,
         duration,
         segmentation_upid_type: bits::octet(s, upid),
-        segmentation_upid_length,
+        segmentation_upid_length: bits::octet(s, upid + 1),
         segmentation_type_id,
         segment_num: bits::octet(s, after + 1),
         segments_expected: bits::octet(s, after + 2),
@@ -52,6 +51,28 @@ pub fn upid_place(s: &[u8], at: u16) -> usize
         after + 5
     } else {
         after
+    }
+}
+
+// Where segmentation_type_id stands.
+pub fn type_place(s: &[u8], at: u16) -> usize
+    ensures { λ r. ⌜ r ≡ afterUpid (now (s .entry)) (upidPlace (now (s .entry)) at) ⌝ }
+{
+    let upid = upid_place(s, at);
+    let segmentation_upid_length = bits::octet(s, upid + 1) as usize;
+    upid + 2 + segmentation_upid_length
+}
+
+// How long the segment lasts.
+pub fn duration(s: &[u8], at: u16) -> Duration
+    ensures { λ r. ⌜ r ≡ durationAt (now (s .entry)) at ⌝ }
+{
+    let start = at as usize;
+    // segmentation_duration_flag
+    if bits::flag(s, 8 * (start + 5) + 1) {
+        Duration::Present(Ticks(bits::read(s, 8 * after_components(s, start), 40)))
+    } else {
+        Duration::Absent
     }
 }
 
@@ -81,18 +102,6 @@ fn delivery(s: &[u8], at: usize) -> Delivery
         no_regional_blackout_flag: bits::flag(s, flags + 4),
         archive_allowed_flag: bits::flag(s, flags + 5),
         device_restrictions: bits::read(s, flags + 6, 2) as u8,
-    }
-}
-
-fn duration(s: &[u8], at: usize) -> Duration
-    requires { ⌜ at ≤ 65535 ⌝ }
-    ensures { λ r. ⌜ r ≡ durationAt (now (s .entry)) at ⌝ }
-{
-    // segmentation_duration_flag
-    if bits::flag(s, 8 * (at + 5) + 1) {
-        Duration::Present(Ticks(bits::read(s, 8 * after_components(s, at), 40)))
-    } else {
-        Duration::Absent
     }
 }
 

@@ -3,7 +3,7 @@
 use mathlib.Core.Path.{sym, ap, _∙_}
 use borrow.Author.Needs.{needs}
 use Rattle.command_reading.specs.declared.answers.Command.{Command}
-use Rattle.signals.specs.Signals.{knownReadings}
+use Rattle.breaks.specs.Signals.{knownReadings}
 use Rattle.breaks.specs.Breaks.{breakBy}
 use Rattle.breaks.proofs.Others.{no-break}
 use Rattle.breaks.proofs.open_break.Statement.{statement}

@@ -54,8 +54,7 @@ descriptor-loop-requires c κs =
 returns-2 : tie.Need-returns-2
 unfolding payload known
 returns-2 c =
-    let t = c .before .before .before .before in
-    (
+    let t = c .before .before .before .before in (
       pass (omega arith) (ruled (record { runs = commanded t ∙ ap outcome (c .before .before .at .given .1) }) (c .descriptor-loop .ensures .0 _ .runs)),
       c .descriptor-loop .ensures .1,
       c .descriptor-loop .ensures .2 ∙ ap (judgement (verdictIn (c .descriptor-loop .result)) false) (sym (loop-after _ _ (sym (t .command-end .ensures) ∙ ap outcome (c .before .before .at .given .1)))),

@@ -16,8 +16,8 @@ use Rattle.segmentation_reading.proofs.uncancelled.Tie as tie
 quad-requires : tie.Need-quad-requires
 quad-requires c κs = search needs
 
-cast-t15 : tie.Need-cast-t15
-cast-t15 c =
+cast-t14 : tie.Need-cast-t14
+cast-t14 c =
     let a = c .before .before .args in
     omega (arith, c .quad .ensures, field-lt (a .s .now) (8 * a .at) 32)
 
@@ -33,52 +33,47 @@ duration-requires c κs = search needs
 upid-place-requires : tie.Need-upid-place-requires
 upid-place-requires c κs = search needs
 
+type-place-requires : tie.Need-type-place-requires
+type-place-requires c κs = search needs
+
 -- the UPID and what follows it stand near
 upid-near : (c : tie.After-upid-place) → c .upid-place .result ≤ 67077
 upid-near c =
     let a = c .before .before .before .before .before .before .args in
     omega (arith, c .upid-place .ensures, upid-room (a .s .now) (a .at))
 
-upid-short : (c : tie.After-octet) → c .octet .result < 256
-upid-short c =
+type-near : (c : tie.After-type-place) → c .type-place .result ≤ 67334
+type-near c =
     let a = c .before .before .before .before .before .before .before .args in
-    omega (arith, c .octet .ensures, field-lt (a .s .now) (8 * (c .before .upid-place .result + 1)) 8)
-
-add-octet : tie.Need-add-octet
-add-octet c = omega (arith, upid-near c)
+    let s = a .s .now in
+    omega (arith, c .type-place .ensures, upid-room s (a .at), field-lt s (8 * (upidPlace s (a .at) + 1)) 8)
 
 octet-requires : tie.Need-octet-requires
 octet-requires c κs = search needs
 
-add-after : tie.Need-add-after
-add-after c = omega (arith, upid-near (c .before))
+add-sub-segments : tie.Need-add-sub-segments
+add-sub-segments c = omega (arith, type-near (c .before))
 
-cast-after : tie.Need-cast-after
-cast-after c = search needs
-
-add-after-2 : tie.Need-add-after-2
-add-after-2 c = omega (arith, upid-near (c .before), upid-short c)
+sub-segments-requires : tie.Need-sub-segments-requires
+sub-segments-requires c κs = omega (arith, type-near (c .before))
 
 octet-requires-2 : tie.Need-octet-requires-2
 octet-requires-2 c κs = search needs
 
-add-sub-segments : tie.Need-add-sub-segments
-add-sub-segments c = omega (arith, upid-near (c .before .before), upid-short (c .before))
-
-sub-segments-requires : tie.Need-sub-segments-requires
-sub-segments-requires c κs = omega (arith, upid-near (c .before .before), upid-short (c .before))
+add-octet : tie.Need-add-octet
+add-octet c = omega (arith, upid-near (c .before .before .before .before))
 
 octet-requires-3 : tie.Need-octet-requires-3
 octet-requires-3 c κs = search needs
 
 add-octet-2 : tie.Need-add-octet-2
-add-octet-2 c = omega (arith, upid-near (c .before .before .before .before), upid-short (c .before .before .before))
+add-octet-2 c = omega (arith, type-near (c .before .before .before .before))
 
 octet-requires-4 : tie.Need-octet-requires-4
 octet-requires-4 c κs = search needs
 
 add-octet-3 : tie.Need-add-octet-3
-add-octet-3 c = omega (arith, upid-near (c .before .before .before .before .before), upid-short (c .before .before .before .before))
+add-octet-3 c = omega (arith, type-near (c .before .before .before .before .before))
 
 octet-requires-5 : tie.Need-octet-requires-5
 octet-requires-5 c κs = search needs
@@ -86,27 +81,26 @@ octet-requires-5 c κs = search needs
 returns : tie.Need-returns
 unfolding uncancelledAt
 returns c =
-    let o = c .before .before .before .before .before in
-    let m = o .before .before .before .before in
+    let t = c .before .before .before .before .before .before in
+    let m = t .before .before .before .before in
     let a = m .before .before .before .args in
     let s : List ℕ = a .s .now in
-    let upid : o .before .upid-place .result ≡ upidPlace s (a .at) = o .before .upid-place .ensures in
-    let long : o .octet .result ≡ fieldOf s (8 * (upidPlace s (a .at) + 1)) 8 = o .octet .ensures ∙ ap (λ (x : ℕ). fieldOf s (8 * (x + 1)) 8) upid in
-    let after : o .before .upid-place .result + 2 + o .octet .result ≡ afterUpid s (upidPlace s (a .at)) = omega (arith, upid, long) in
-    let type : c .before .before .before .before .octet2 .result ≡ fieldOf s (8 * afterUpid s (upidPlace s (a .at))) 8 =
-    c .before .before .before .before .octet2 .ensures ∙ ap (λ (x : ℕ). fieldOf s (8 * x) 8) after in
+    let upid : t .before .upid-place .result ≡ upidPlace s (a .at) = t .before .upid-place .ensures in
+    let after : t .type-place .result ≡ afterUpid s (upidPlace s (a .at)) = t .type-place .ensures in
+    let type : c .before .before .before .before .before .octet .result ≡ fieldOf s (8 * afterUpid s (upidPlace s (a .at))) 8 =
+    c .before .before .before .before .before .octet .ensures ∙ ap (λ (x : ℕ). fieldOf s (8 * x) 8) after in
     λ i.
     record {
       «segmentation_event_id» = eventId (m .before .quad .ensures i);
       mode = m .mode .ensures i;
-      delivery = o .before .before .before .delivery .ensures i;
-      duration = o .before .before .duration .ensures i;
-      «segmentation_upid_type» = (c .before .before .octet3 .ensures ∙ ap (λ (x : ℕ). fieldOf s (8 * x) 8) upid) i;
-      «segmentation_upid_length» = long i;
+      delivery = t .before .before .before .delivery .ensures i;
+      duration = t .before .before .duration .ensures i;
+      «segmentation_upid_type» = (c .before .before .before .octet2 .ensures ∙ ap (λ (x : ℕ). fieldOf s (8 * x) 8) upid) i;
+      «segmentation_upid_length» = (c .before .before .octet3 .ensures ∙ ap (λ (x : ℕ). fieldOf s (8 * (x + 1)) 8) upid) i;
       «segmentation_type_id» = type i;
       «segment_num» = (c .before .octet4 .ensures ∙ ap (λ (x : ℕ). fieldOf s (8 * (x + 1)) 8) after) i;
       «segments_expected» = (c .octet5 .ensures ∙ ap (λ (x : ℕ). fieldOf s (8 * (x + 2)) 8) after) i;
-      «sub_segments» = (c .before .before .before .sub-segments .ensures ∙ ap₂ (λ (x y : ℕ). subSegmentsAt s x (y + 3) (a .end)) type after) i;
+      «sub_segments» = (c .before .before .before .before .sub-segments .ensures ∙ ap₂ (λ (x y : ℕ). subSegmentsAt s x (y + 3) (a .end)) type after) i;
     }
 
 pub uncancelled-spec : {M : Type 1} → statement M
@@ -114,19 +108,17 @@ uncancelled-spec =
     tie.close
     (tie.spec
     quad-requires
-    cast-t15
+    cast-t14
     mode-requires
     delivery-requires
     duration-requires
     upid-place-requires
-    add-octet
+    type-place-requires
     octet-requires
-    add-after
-    cast-after
-    add-after-2
-    octet-requires-2
     add-sub-segments
     sub-segments-requires
+    octet-requires-2
+    add-octet
     octet-requires-3
     add-octet-2
     octet-requires-4

@@ -3,8 +3,8 @@
 use mathlib.Core.Path.{sym, ap, _∙_}
 use borrow.Author.Needs.{needs}
 use Rattle.command_reading.specs.declared.answers.Command.{Command}
-use Rattle.signals.specs.declared.Signal.{Signal}
-use Rattle.signals.specs.Signals.{knownReadings}
+use Rattle.breaks.specs.declared.signal.Signal.{Signal}
+use Rattle.breaks.specs.Signals.{knownReadings}
 use Rattle.breaks.specs.Dash.{dashOf, dashBy}
 use Rattle.breaks.proofs.Others.{no-dash}
 use Rattle.breaks.proofs.dash.open_dash.Statement.{statement}

@@ -5,10 +5,10 @@ use mathlib.Core.Bool.{Bool, cond}
 use native.Mathlib.Omega.{arith}
 use borrow.Author.Needs.{needs}
 use borrow.Author.Tests.{le-leb, lt-leb}
-use Rattle.signals.specs.declared.Measure.{Measure}
-use Rattle.signals.specs.Signals.{longer}
-use Rattle.signals.proofs.longer.Statement.{statement}
-use Rattle.signals.proofs.longer.Tie as tie
+use Rattle.breaks.specs.declared.signal.Measure.{Measure}
+use Rattle.breaks.specs.Signals.{longer}
+use Rattle.breaks.proofs.signal.longer.Statement.{statement}
+use Rattle.breaks.proofs.signal.longer.Tie as tie
 
 enum-known-a : tie.Need-enum-known-a
 enum-known-a c = search needs

@@ -11,9 +11,9 @@ use borrow.Author.Tests.{le-leb, lt-leb, leb-true, leb-false, eq-eqb, ne-eqb}
 use Rattle.units.specs.declared.clock.Ticks.{Ticks}
 use Rattle.units.specs.declared.clock.EventId.{EventId}
 use Rattle.descriptor_reading.specs.declared.answers.Descriptor.{Descriptor}
-use Rattle.signals.specs.declared.Measure.{Measure}
-use Rattle.signals.specs.declared.Signal.{Signal}
-use Rattle.signals.specs.Signals.{opens, someOpens, carried, counted, longer, longestBy, signalOf, withOne}
+use Rattle.breaks.specs.declared.signal.Measure.{Measure}
+use Rattle.breaks.specs.declared.signal.Signal.{Signal}
+use Rattle.breaks.specs.Signals.{opens, someOpens, carried, counted, longer, longestBy, signalOf, withOne}
 
 -- ---- the longer of two
 

@@ -2,10 +2,10 @@
 -- Assumes nothing.
 use mathlib.Core.Path.{sym, ap, _∙_}
 use borrow.Author.Needs.{needs}
-use Rattle.signals.specs.Signals.{measureOf, carried}
-use Rattle.signals.proofs.Others.{carries-none}
-use Rattle.signals.proofs.carried.Statement.{statement}
-use Rattle.signals.proofs.carried.Tie as tie
+use Rattle.breaks.specs.Signals.{measureOf, carried}
+use Rattle.breaks.proofs.Openers.{carries-none}
+use Rattle.breaks.proofs.signal.carried.Statement.{statement}
+use Rattle.breaks.proofs.signal.carried.Tie as tie
 
 enum-known-here : tie.Need-enum-known-here
 enum-known-here c = search needs

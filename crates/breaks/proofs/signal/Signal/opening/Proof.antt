@@ -3,9 +3,9 @@
 use mathlib.Core.Path.{sym, ap}
 use borrow.Author.Needs.{needs}
 use borrow.Author.Tests.{not-true, not-false}
-use Rattle.signals.specs.Signals.{lasting}
-use Rattle.signals.proofs.Signal.opening.Statement.{statement}
-use Rattle.signals.proofs.Signal.opening.Tie as tie
+use Rattle.breaks.specs.Signals.{lasting}
+use Rattle.breaks.proofs.signal.Signal.opening.Statement.{statement}
+use Rattle.breaks.proofs.signal.Signal.opening.Tie as tie
 
 returns : tie.Need-returns
 returns c = rw (not-true (c .before .before .args .self .opened) (c .if1 .taken))

@@ -16,7 +16,7 @@ use Rattle.known_walk.specs.Known.{isKnown, knownAmong}
 use Rattle.descriptor_reading.specs.Descriptor.{standing, descriptorOf}
 use Rattle.known_walk.proofs.KnownAmong.{known-first, unknown-first, none-left, none-whole, in-section, too-long}
 use Rattle.known_walk.proofs.StandingRows.{known-here}
-use Rattle.signals.specs.Signals.{readAt, knownReadings}
+use Rattle.breaks.specs.Signals.{readAt, knownReadings}
 
 abbrev pub left : List ℕ → Cursor → List Descriptor
 left s c = readAt s (knownAmong s (walked s c))

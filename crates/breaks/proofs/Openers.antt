@@ -8,8 +8,8 @@ use types.Run.{OneOf, miss}
 use denote.Enum.Declared.{tagOf}
 use Rattle.descriptor_reading.specs.declared.answers.Descriptor.{Descriptor}
 use Rattle.descriptor_reading.proofs.answers.Descriptor as declared-descriptor
-use Rattle.signals.specs.declared.Measure.{Measure}
-use Rattle.signals.specs.Signals.{opens, carried}
+use Rattle.breaks.specs.declared.signal.Measure.{Measure}
+use Rattle.breaks.specs.Signals.{opens, carried}
 
 abbrev pub unsegmented : List ℕ
 unsegmented = 0 ∷ 1 ∷ 3 ∷ 4 ∷ 5 ∷ 6 ∷ []

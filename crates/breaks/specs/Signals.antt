@@ -12,9 +12,9 @@ use Rattle.units.specs.declared.clock.EventId.{EventId}
 use Rattle.segmentation_reading.specs.declared.answers.Duration.{Duration}
 use Rattle.descriptor_reading.specs.declared.answers.Descriptor.{Descriptor}
 use Rattle.descriptor_reading.specs.Descriptor.{descriptorOf}
-use Rattle.signals.specs.declared.Break.{Break}
-use Rattle.signals.specs.declared.Measure.{Measure}
-use Rattle.signals.specs.declared.Signal.{Signal}
+use Rattle.breaks.specs.declared.Break.{Break}
+use Rattle.breaks.specs.declared.signal.Measure.{Measure}
+use Rattle.breaks.specs.declared.signal.Signal.{Signal}
 
 -- ---- the known descriptors of an open section, in order
 

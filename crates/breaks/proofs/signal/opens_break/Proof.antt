@@ -4,9 +4,9 @@ use mathlib.Core.Path.{refl, sym}
 use Prim.Native.Nat.{ℕ}
 use Rattle.grammar.specs.Meaning.{isAmong}
 use Rattle.grammar.proofs.Keys.{one-of, none-of}
-use Rattle.signals.specs.Signals.{breakTypes}
-use Rattle.signals.proofs.opens_break.Statement.{statement}
-use Rattle.signals.proofs.opens_break.Tie as tie
+use Rattle.breaks.specs.Signals.{breakTypes}
+use Rattle.breaks.proofs.signal.opens_break.Statement.{statement}
+use Rattle.breaks.proofs.signal.opens_break.Tie as tie
 
 returns : tie.Need-returns
 returns c = sym (one-of (λ (x : ℕ). isAmong x breakTypes) breakTypes (c .before .args .segmentation-type-id) refl (c .match .keys1))

@@ -13,12 +13,12 @@ use Rattle.descriptors.specs.Walk.{stepOf}
 use Rattle.descriptor_reading.specs.declared.answers.Descriptor.{Descriptor}
 use Rattle.descriptor_reading.specs.Descriptor.{standing}
 use Rattle.known_walk.proofs.KnownAmong.{less-left}
-use Rattle.signals.specs.declared.Signal.{Signal}
-use Rattle.signals.specs.Signals.{knownReadings, someOpens, longestBy, withOne, signalOf}
-use Rattle.signals.proofs.Left.{left, all-left, nothing-read, known-left, unknown-left, done-left, broken-left}
-use Rattle.signals.proofs.Longest.{Found, nothing, nothing-yet, one-more, all-found}
-use Rattle.signals.proofs.walk.Statement.{statement}
-use Rattle.signals.proofs.walk.Tie as tie
+use Rattle.breaks.specs.declared.signal.Signal.{Signal}
+use Rattle.breaks.specs.Signals.{knownReadings, someOpens, longestBy, withOne, signalOf}
+use Rattle.breaks.proofs.Left.{left, all-left, nothing-read, known-left, unknown-left, done-left, broken-left}
+use Rattle.breaks.proofs.Longest.{Found, nothing, nothing-yet, one-more, all-found}
+use Rattle.breaks.proofs.signal.walk.Statement.{statement}
+use Rattle.breaks.proofs.signal.walk.Tie as tie
 
 abbrev Inv-loop : tie.InvT-loop
 Inv-loop s found₀ place₀ found place = (length s ≤ 4096) × Found found (left s place) (knownReadings s place₀)

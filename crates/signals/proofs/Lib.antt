@@ -1,3 +1,0 @@
-pub mod Left
-pub mod Others
-pub mod Longest
