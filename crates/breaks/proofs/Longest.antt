@@ -77,6 +77,10 @@ module _ (g : Signal) (d : Descriptor) {m l : Measure} (is-measure : m ≡ carri
       (λ i. record { opened = sym (either-true (g .opened)) i; billed = (is-billed ∙ ap (longer (g .billed)) is-measure) i; longest = longest-is i })
       ∙ ap (λ (t : Bool). withBy t g d) (sym e)
 
+-- a descriptor that opens no break and carries no duration adds nothing
+pub with-idle : (g : Signal) (d : Descriptor) → opens d ≡ false → carried d ≡ Measure.Absent → withOne g d ≡ g
+with-idle g d e m = sym (with-other g d {m = Measure.Absent} {l = g .longest} (sym m) (sym (absent-last (g .longest))) e)
+
 -- what was found and what is left make the whole
 pub record Found (found : Signal) (left all : List Descriptor) : Type 0 where
   pub opened : (found .opened || someOpens left) ≡ someOpens all

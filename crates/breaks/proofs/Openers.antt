@@ -1,4 +1,4 @@
--- The other arm of a `match`: what the definitions say of what it stands for.
+-- The other arm of a test on a descriptor's kind: what the definition says of it.
 -- Assumes nothing.
 use mathlib.Core.Path.{_≡_, refl}
 use mathlib.Core.Bool.{false}
@@ -6,28 +6,17 @@ use mathlib.Core.List.{List, [], _∷_}
 use Prim.Native.Nat.{ℕ}
 use types.Run.{OneOf, miss}
 use denote.Enum.Declared.{tagOf}
-use Rattle.descriptor_reading.specs.declared.answers.Descriptor.{Descriptor}
-use Rattle.descriptor_reading.proofs.answers.Descriptor as declared-descriptor
-use Rattle.breaks.specs.declared.signal.Measure.{Measure}
-use Rattle.breaks.specs.Signals.{opens, carried}
+use Rattle.descriptors.specs.declared.Kind.{Kind}
+use Rattle.descriptors.proofs.Kind as declared-kind
+use Rattle.breaks.specs.Signals.{isSegmentation}
 
-abbrev pub unsegmented : List ℕ
-unsegmented = 0 ∷ 1 ∷ 3 ∷ 4 ∷ 5 ∷ 6 ∷ []
+abbrev pub others : List ℕ
+others = 0 ∷ 1 ∷ 3 ∷ 4 ∷ 5 ∷ []
 
-pub opens-none : (d : Descriptor) → OneOf unsegmented (tagOf declared-descriptor.the-type d) → false ≡ opens d
-opens-none (Descriptor.Avail id) h = refl
-opens-none (Descriptor.Dtmf preroll n) h = refl
-opens-none (Descriptor.Segmentation d) h = absurd (miss unsegmented 2 tt h)
-opens-none (Descriptor.CancelledSegmentation id) h = refl
-opens-none (Descriptor.Time seconds ns offset) h = refl
-opens-none (Descriptor.Audio n) h = refl
-opens-none (Descriptor.Refused r) h = refl
-
-pub carries-none : (d : Descriptor) → OneOf unsegmented (tagOf declared-descriptor.the-type d) → Measure.Absent ≡ carried d
-carries-none (Descriptor.Avail id) h = refl
-carries-none (Descriptor.Dtmf preroll n) h = refl
-carries-none (Descriptor.Segmentation d) h = absurd (miss unsegmented 2 tt h)
-carries-none (Descriptor.CancelledSegmentation id) h = refl
-carries-none (Descriptor.Time seconds ns offset) h = refl
-carries-none (Descriptor.Audio n) h = refl
-carries-none (Descriptor.Refused r) h = refl
+pub no-segmentation : (k : Kind) → OneOf others (tagOf declared-kind.the-type k) → false ≡ isSegmentation k
+no-segmentation Kind.Avail h = refl
+no-segmentation Kind.Dtmf h = refl
+no-segmentation Kind.Segmentation h = absurd (miss others 2 tt h)
+no-segmentation Kind.Time h = refl
+no-segmentation Kind.Audio h = refl
+no-segmentation Kind.Unknown h = refl

@@ -1,15 +1,19 @@
 -- What a time signal says by the descriptors of its section: the break, and the longest duration.
 -- Assumes nothing.
-use Prim.Native.Nat.{ℕ}
-use mathlib.Core.Bool.{Bool, false, cond, _||_}
+use Prim.Native.Nat.{ℕ, _+_, _*_}
+use mathlib.Core.Bool.{Bool, true, false, not, cond, _&&_, _||_}
 use mathlib.Core.List.{List, [], _∷_}
 use lib.Dec.{leb}
 use Rattle.grammar.specs.Meaning.{isAmong}
+use Rattle.bits.specs.Bits.{fieldOf, flagOf}
 use Rattle.descriptors.specs.declared.Cursor.{Cursor}
+use Rattle.descriptors.specs.declared.Kind.{Kind}
+use Rattle.descriptors.specs.Walk.{kindOf}
 use Rattle.descriptors.specs.Loop.{traceAt}
 use Rattle.known_walk.specs.Known.{knownCursors}
 use Rattle.units.specs.declared.clock.EventId.{EventId}
 use Rattle.segmentation_reading.specs.declared.answers.Duration.{Duration}
+use Rattle.segmentation_reading.specs.Places.{upidPlace, afterUpid}
 use Rattle.descriptor_reading.specs.declared.answers.Descriptor.{Descriptor}
 use Rattle.descriptor_reading.specs.Descriptor.{descriptorOf}
 use Rattle.breaks.specs.declared.Break.{Break}
@@ -98,7 +102,24 @@ breakOf g = cond (g .opened) (lasting (g .billed)) Break.None
 unfoldable pub signalBreak : List Descriptor → Break
 signalBreak ds = breakOf (signalOf ds)
 
--- ---- for a private function
+-- ---- for private functions
+
+-- a kind is that of segmentation descriptors
+abbrev pub isSegmentation : Kind → Bool
+isSegmentation Kind.Avail = false
+isSegmentation Kind.Dtmf = false
+isSegmentation Kind.Segmentation = true
+isSegmentation Kind.Time = false
+isSegmentation Kind.Audio = false
+isSegmentation Kind.Unknown = false
+
+-- a segmentation descriptor stands from byte `at` on, and is not cancelled
+abbrev pub uncancelled : List ℕ → ℕ → Bool
+uncancelled s at = isSegmentation (kindOf s at) && not (flagOf s (8 * (at + 10)))
+
+-- one that stands so opens a break, by the byte `at` after its identifier
+abbrev pub opensAt : List ℕ → ℕ → Bool
+opensAt s at = isAmong (fieldOf s (8 * afterUpid s (upidPlace s at)) 8) breakTypes
 
 -- what was found so far, and one descriptor more
 abbrev pub withOne : Signal → Descriptor → Signal

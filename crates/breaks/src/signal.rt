@@ -6,9 +6,9 @@ ghost use lib.ListN.{length};
 ghost use Rattle.bits.specs.Bits.{fieldOf};
 ghost use Rattle.grammar.specs.Meaning.{isAmong};
 ghost use Rattle.units.specs.Clock.{eventId};
-ghost use Rattle.segmentation_reading.specs.Places.{durationAt, upidPlace, afterUpid};
+ghost use Rattle.segmentation_reading.specs.Places.{durationAt};
 ghost use Rattle.descriptors.proofs.Filled.{Filled};
-ghost use Rattle.breaks.specs.Signals.{breakTypes, uncancelled, measureOf, longer, signalOf, breakOf, knownReadings};
+ghost use Rattle.breaks.specs.Signals.{breakTypes, uncancelled, opensAt, measureOf, longer, signalOf, breakOf, knownReadings};
 use crate::Break;
 use descriptors::Cursor;
 use descriptors::Kind;
@@ -89,7 +89,7 @@ fn is_uncancelled(s: &[u8], at: usize) -> bool
 
 // Whether it opens a break, by the byte after its identifier.
 fn opens(s: &[u8], at: u16) -> bool
-    ensures { λ r. ⌜ r ≡ isAmong (fieldOf (now (s .entry)) (8 * afterUpid (now (s .entry)) (upidPlace (now (s .entry)) at)) 8) breakTypes ⌝ }
+    ensures { λ r. ⌜ r ≡ opensAt (now (s .entry)) at ⌝ }
 {
     opens_break(bits::octet(s, segmentation_reading::type_place(s, at)))
 }

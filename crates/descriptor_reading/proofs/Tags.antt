@@ -76,10 +76,14 @@ module _ (s : List ℕ) (at : ℕ) (t : Trace) (h : Stands s at t) where
   tag-there : tagAt s at ≡ num (bit s) (8 * at) 8
   tag-there = field-there s (8 * at) 8 (omega arith) (omega (arith, h .low, h .inside))
 
-  -- the tag at the descriptor's place picks its kind
+  -- the tag at the descriptor's place is that of its kind
+  pub tag-is : tagAt s at ≡ tagOf (kindOf s at)
+  tag-is = tag-there ∙ known-kind s at (h .known) .1
+
+  -- and picks it
   pub kind-is : (k : Kind) → eqb (tagAt s at) (tagOf k) ≡ true → kindOf s at ≡ k
   kind-is k e =
-      let tag : tagOf (kindOf s at) ≡ tagOf k = sym (known-kind s at (h .known) .1) ∙ sym tag-there ∙ eqb-true (tagAt s at) (tagOf k) e in
+      let tag : tagOf (kindOf s at) ≡ tagOf k = sym tag-is ∙ eqb-true (tagAt s at) (tagOf k) e in
       sym (kind-back (kindOf s at)) ∙ ap byTag tag ∙ kind-back k
 
   -- and is the one that its rows have

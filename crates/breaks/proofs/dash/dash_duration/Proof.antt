@@ -2,7 +2,7 @@
 -- Assumes nothing.
 use mathlib.Core.Path.{sym, _∙_}
 use borrow.Author.Needs.{needs}
-use Rattle.opening.proofs.Asked.{when-open, when-refused}
+use Rattle.opening.proofs.Asked.{is-open, when-open, when-refused}
 use Rattle.breaks.specs.Dash.{dashDuration}
 use Rattle.breaks.proofs.dash.dash_duration.Statement.{statement}
 use Rattle.breaks.proofs.dash.dash_duration.Tie as tie
@@ -14,7 +14,9 @@ enum-known-cursor : tie.Need-enum-known-cursor
 enum-known-cursor c = search needs
 
 open-dash-requires : tie.Need-open-dash-requires
-open-dash-requires c κs = search needs
+open-dash-requires c κs =
+    let s = c .before .before .before .before .before .args .section .now in
+    is-open s _ (sym (c .before .before .before .«open» .ensures) ∙ c .before .cursor .given .1)
 
 enum-known-refusal : tie.Need-enum-known-refusal
 enum-known-refusal c = search needs

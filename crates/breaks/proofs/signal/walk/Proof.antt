@@ -1,120 +1,139 @@
--- `signals::walk` meets its contract: the invariant of its loop is that what was found so far and what is still to be walked make
--- the whole.
+-- `breaks::signal::walk` meets its contract: the invariant of its loop is that descriptors fill what is left of the loop, and that
+-- what was found so far and what is left make the whole.
 -- Assumes nothing.
 use mathlib.Core.Path.{_≡_, sym, ap, _∙_, subst}
 use mathlib.Core.List.{List, []}
-use Prim.Native.Nat.{ℕ, _-_, _≤_}
+use mathlib.Core.Logic.{⊎-elim}
+use Prim.Native.Nat.{ℕ, _+_, _-_, _≤_}
 use native.Mathlib.Omega.{arith}
 use lib.ListN.{length}
 use borrow.Author.Needs.{needs}
 use Rattle.descriptors.specs.declared.Cursor.{Cursor}
-use Rattle.descriptors.specs.declared.Step.{Step}
-use Rattle.descriptors.specs.Walk.{stepOf}
+use Rattle.descriptors.proofs.Filled.{Filled, following, Going, going}
+use Rattle.descriptors.proofs.Walk.{nothing-left}
 use Rattle.descriptor_reading.specs.declared.answers.Descriptor.{Descriptor}
-use Rattle.descriptor_reading.specs.Descriptor.{standing}
-use Rattle.known_walk.proofs.KnownAmong.{less-left}
 use Rattle.breaks.specs.declared.signal.Signal.{Signal}
-use Rattle.breaks.specs.Signals.{knownReadings, someOpens, longestBy, withOne, signalOf}
-use Rattle.breaks.proofs.Left.{left, all-left, nothing-read, known-left, unknown-left, done-left, broken-left}
-use Rattle.breaks.proofs.Longest.{Found, nothing, nothing-yet, one-more, all-found}
+use Rattle.breaks.specs.Signals.{knownReadings}
+use Rattle.breaks.proofs.Left.{left, all-left, done-left}
+use Rattle.breaks.proofs.Longest.{Found, nothing, nothing-yet, all-found}
+use Rattle.breaks.proofs.Standing.{passed, with-break, without-break}
 use Rattle.breaks.proofs.signal.walk.Statement.{statement}
 use Rattle.breaks.proofs.signal.walk.Tie as tie
 
 abbrev Inv-loop : tie.InvT-loop
-Inv-loop s found₀ place₀ found place = (length s ≤ 4096) × Found found (left s place) (knownReadings s place₀)
+Inv-loop s cursor opened₀ billed₀ longest₀ at₀ opened billed longest at =
+    (length s ≤ 4096)
+    × Filled s (record { at = at; end = cursor .end })
+    × Found (record { opened = opened; billed = billed; longest = longest }) (left s (record { at = at; end = cursor .end })) (knownReadings s cursor)
 
 abbrev μ-loop : tie.MeasureT-loop
-μ-loop s found₀ place₀ found place = place .end - place .at
+μ-loop s cursor opened₀ billed₀ longest₀ at₀ opened billed longest at = cursor .end - at
 
--- where nothing is left, what was found is all
-ended : (s : List ℕ) (cursor place : Cursor) (found : Signal) → Found found (left s place) (knownReadings s cursor) → left s place ≡ []
-    → found ≡ signalOf (knownReadings s cursor)
-ended s cursor place found h none =
-    all-found found (knownReadings s cursor) (subst (λ (ds : List Descriptor). Found found ds (knownReadings s cursor)) none h)
+-- where the walk stands
+abbrev place : (c : tie.Then1 Inv-loop μ-loop) → Cursor
+place c = record { at = c .before .before .loop .at; end = c .before .before .before .before .args .cursor .end }
 
--- the step, where it finds a descriptor
-step-is : (c : tie.After-is-known Inv-loop μ-loop)
-    → stepOf (c .before .before .before .before .before .before .before .before .args .s .now) (c .before .before .before .before .before .loop .place)
-    ≡ Step.Descriptor (c .before .before .kind .given .0 .0) (c .before .before .kind .given .0 .1 .0)
-step-is c = sym (c .before .before .before .before .step .ensures) ∙ c .before .before .kind .given .1
+-- a descriptor stands there
+stands : (c : tie.Then1 Inv-loop μ-loop) → Going (c .before .before .before .before .args .s .now) (place c)
+stands c =
+    let l = c .before .before in
+    going (l .before .before .args .s .now) (λ i. l .before .shared-slice-known .given i .fits) (place c) (l .loop .inv .1) (c .if1 .taken)
 
-returns : tie.Need-returns Inv-loop μ-loop
-unfolding signalOf someOpens longestBy
-returns c = let a = c .before .before .args in ap signalOf (sym (nothing-read (a .s .now) (a .cursor) (omega arith)))
+near : (c : tie.Then1 Inv-loop μ-loop) → following (c .before .before .before .before .args .s .now) (place c) .at ≤ 4096
+near c = omega (arith, stands c .inside, c .before .before .loop .inv .0, c .before .before .loop .inv .1 .0)
 
 loop-holds : tie.Need-loop-holds Inv-loop μ-loop
 loop-holds c =
-    let a = c .before .before .args in
-    let short : length (a .s .now) ≤ 4096 = omega arith in
+    let a = c .before .args in
+    let pre = c .before .pre in
     let all = knownReadings (a .s .now) (a .cursor) in
-    (short, subst (λ (ds : List Descriptor). Found nothing ds all) (sym (all-left (a .s .now) (a .cursor) short)) (nothing-yet all))
+    (pre .0, pre .1, subst (λ (ds : List Descriptor). Found nothing ds all) (sym (all-left (a .s .now) (a .cursor) (pre .0))) (nothing-yet all))
 
-step-requires : tie.Need-step-requires Inv-loop μ-loop
-step-requires c κs = search needs
+is-uncancelled-requires : tie.Need-is-uncancelled-requires Inv-loop μ-loop
+is-uncancelled-requires c κs = omega (arith, near c)
 
-enum-known-kind : tie.Need-enum-known-kind Inv-loop μ-loop
-enum-known-kind c = search needs
+add-here : tie.Need-add-here Inv-loop μ-loop
+add-here c = omega (arith, near (c .before .before))
 
-is-known-requires : tie.Need-is-known-requires Inv-loop μ-loop
-is-known-requires c κs = search needs
+cast-here : tie.Need-cast-here Inv-loop μ-loop
+cast-here c = omega (arith, near (c .before .before))
 
-descriptor-at-requires : tie.Need-descriptor-at-requires Inv-loop μ-loop
-descriptor-at-requires c κs = search needs
+carried-requires : tie.Need-carried-requires Inv-loop μ-loop
+carried-requires c κs = search needs
 
-with-requires : tie.Need-with-requires Inv-loop μ-loop
-with-requires c κs = search needs
+longer-requires : tie.Need-longer-requires Inv-loop μ-loop
+longer-requires c κs = search needs
+
+opens-requires : tie.Need-opens-requires Inv-loop μ-loop
+opens-requires c κs = search needs
+
+longer-requires-2 : tie.Need-longer-requires-2 Inv-loop μ-loop
+longer-requires-2 c κs = search needs
+
+add-at : tie.Need-add-at Inv-loop μ-loop
+add-at c = omega (arith, near (c .before .before))
+
+add-at-2 : tie.Need-add-at-2 Inv-loop μ-loop
+add-at-2 c = omega (arith, near (c .before .before))
+
+shared-slice-read-at : tie.Need-shared-slice-read-at Inv-loop μ-loop
+shared-slice-read-at c =
+    let t = c .before .before .before in
+    omega (arith, stands t .inside, t .before .before .loop .inv .1 .0)
+
+cast-at : tie.Need-cast-at Inv-loop μ-loop
+cast-at c = omega (arith, near (c .before .before .before))
+
+add-at-3 : tie.Need-add-at-3 Inv-loop μ-loop
+add-at-3 c = omega (arith, near (c .before .before .before))
+
+-- what was found with the descriptor, whichever way it went
+met : (c : tie.Joined2 Inv-loop μ-loop)
+    → let l = c .before .before .before .before in
+    let a = l .before .before .args in
+    Found (record { opened = c .if2 .opened; billed = c .if2 .billed; longest = c .if2 .longest })
+    (left (a .s .now) (following (a .s .now) (place (c .before .before)))) (knownReadings (a .s .now) (a .cursor))
+met c =
+    let t = c .before .before in
+    let l = t .before .before in
+    let a = l .before .before .args in
+    let s = a .s .now in
+    let g : Signal = record { opened = l .loop .opened; billed = l .loop .billed; longest = l .loop .longest } in
+    let all = knownReadings s (a .cursor) in
+    let found = l .loop .inv .2 in
+    let here = stands t in
+    let fits = l .loop .inv .0 in
+    let is = c .before .is-uncancelled .ensures in
+    ⊎-elim
+    (λ w.
+    subst (λ (x : Signal). Found x (left s (following s (place t))) all) (λ i. record { opened = sym (w .6) i; billed = sym (w .7) i; longest = sym (w .8) i })
+    (with-break s (place t) fits here (sym is ∙ w .0 .taken) g all found (w .1 .ensures) (w .2 .ensures) (sym (w .3 .ensures) ∙ w .4 .taken) (w .5 .ensures)))
+    (⊎-elim
+    (λ w.
+    subst (λ (x : Signal). Found x (left s (following s (place t))) all) (λ i. record { opened = sym (w .5) i; billed = sym (w .6) i; longest = sym (w .7) i })
+    (without-break s (place t) fits here (sym is ∙ w .0 .taken) g all found (w .1 .ensures) (w .2 .ensures) (sym (w .3 .ensures) ∙ w .4 .left)))
+    (λ w.
+    subst (λ (x : Signal). Found x (left s (following s (place t))) all) (λ i. record { opened = sym (w .1) i; billed = sym (w .2) i; longest = sym (w .3) i })
+    (passed s (place t) fits here g all (sym is ∙ w .0 .left) found)))
+    (c .if2 .came)
 
 loop-less : tie.Need-loop-less Inv-loop μ-loop
-loop-less c = less-left _ _ _ _ (step-is (c .before .before .before))
+loop-less c = let t = c .before .before .before in omega (arith, stands t .inside, t .if1 .taken)
 
 loop-again : tie.Need-loop-again Inv-loop μ-loop
 loop-again c =
-    let known = c .before .before in
-    let k = known .before in
-    let kind = k .before .before .kind .given .0 in
-    let l = k .before .before .before .before .before in
-    let a = l .before .before .before .args in
+    let t = c .before .before .before in
+    (t .before .before .loop .inv .0, stands t .filled, met (c .before))
+
+returns : tie.Need-returns Inv-loop μ-loop
+returns c =
+    let l = c .before .before in
+    let a = l .before .before .args in
     let s = a .s .now in
-    let found = l .loop .found in
     let all = knownReadings s (a .cursor) in
-    let rest = known-left s (l .loop .place) (kind .0) (kind .1 .0) (l .loop .inv .0) (step-is k) (sym (k .is-known .ensures) ∙ known .if2 .taken) in (
-      l .loop .inv .0,
-      subst (λ (g : Signal). Found g (left s (kind .1 .0)) all) (sym (c .«with» .ensures ∙ ap (withOne found) (c .before .descriptor-at .ensures)))
-          (one-more found (standing s (l .loop .place)) (left s (kind .1 .0)) all
-          (subst (λ (ds : List Descriptor). Found found ds all) rest (l .loop .inv .1))),
-    )
-
-loop-less-2 : tie.Need-loop-less-2 Inv-loop μ-loop
-loop-less-2 c = less-left _ _ _ _ (step-is (c .before))
-
-loop-again-2 : tie.Need-loop-again-2 Inv-loop μ-loop
-loop-again-2 c =
-    let k = c .before in
-    let kind = k .before .before .kind .given .0 in
-    let l = k .before .before .before .before .before in
-    let a = l .before .before .before .args in
-    let rest = unknown-left (a .s .now) (l .loop .place) (kind .0) (kind .1 .0) (step-is k) (sym (k .is-known .ensures) ∙ c .if2 .left) in
-    (l .loop .inv .0, subst (λ (ds : List Descriptor). Found (l .loop .found) ds (knownReadings (a .s .now) (a .cursor))) rest (l .loop .inv .1))
-
-enum-told : tie.Need-enum-told Inv-loop μ-loop
-enum-told c = search needs
-
-returns-2 : tie.Need-returns-2 Inv-loop μ-loop
-returns-2 c =
-    let l = c .before .before .before in
-    let a = l .before .before .before .args in
-    ended (a .s .now) (a .cursor) (l .loop .place) (l .loop .found) (l .loop .inv .1)
-    (done-left (a .s .now) (l .loop .place) (sym (c .before .before .step .ensures) ∙ c .enum-told .given .1))
-
-enum-told-2 : tie.Need-enum-told-2 Inv-loop μ-loop
-enum-told-2 c = search needs
-
-returns-3 : tie.Need-returns-3 Inv-loop μ-loop
-returns-3 c =
-    let l = c .before .before .before in
-    let a = l .before .before .before .args in
-    ended (a .s .now) (a .cursor) (l .loop .place) (l .loop .found) (l .loop .inv .1)
-    (broken-left (a .s .now) (l .loop .place) (sym (c .before .before .step .ensures) ∙ c .enum-told2 .given .1))
+    let none = done-left s (record { at = l .loop .at; end = a .cursor .end }) (nothing-left s _ (c .if1 .left)) in
+    let g : Signal = record { opened = l .loop .opened; billed = l .loop .billed; longest = l .loop .longest } in
+    all-found g all (subst (λ (ds : List Descriptor). Found g ds all) none (l .loop .inv .2))
 
 pub walk-spec : {M : Type 1} → statement M
 walk-spec =
@@ -122,18 +141,19 @@ walk-spec =
     (tie.spec
     Inv-loop
     μ-loop
-    returns
     loop-holds
-    step-requires
-    enum-known-kind
-    is-known-requires
-    descriptor-at-requires
-    with-requires
+    is-uncancelled-requires
+    add-here
+    cast-here
+    carried-requires
+    longer-requires
+    opens-requires
+    longer-requires-2
+    add-at
+    add-at-2
+    shared-slice-read-at
+    cast-at
+    add-at-3
     loop-less
     loop-again
-    loop-less-2
-    loop-again-2
-    enum-told
-    returns-2
-    enum-told-2
-    returns-3)
+    returns)
