@@ -3,19 +3,17 @@
 use mathlib.Core.Path.{_≡_, sym, ap, _∙_}
 use mathlib.Core.Bool.{true, false}
 use mathlib.Core.List.{List, [], _∷_}
-use Prim.Native.Nat.{ℕ, _≤_, _<_}
+use Prim.Native.Nat.{ℕ, _≤_}
 use lib.ListN.{length}
-use Rattle.grammar.specs.Traces.{Trace}
 use Rattle.descriptors.specs.declared.Cursor.{Cursor}
 use Rattle.descriptors.specs.declared.Kind.{Kind}
 use Rattle.descriptors.specs.declared.Step.{Step}
 use Rattle.descriptors.specs.Walk.{stepOf}
-use Rattle.descriptors.specs.Loop.{walked}
+use Rattle.descriptors.specs.Loop.{walked, traceAt}
 use Rattle.descriptor_reading.specs.declared.answers.Descriptor.{Descriptor}
 use Rattle.known_walk.specs.Known.{isKnown, knownAmong}
-use Rattle.descriptor_reading.specs.Descriptor.{standing, descriptorOf}
-use Rattle.known_walk.proofs.KnownAmong.{known-first, unknown-first, none-left, none-whole, in-section, too-long}
-use Rattle.known_walk.proofs.StandingRows.{known-here}
+use Rattle.descriptor_reading.specs.Descriptor.{descriptorOf}
+use Rattle.known_walk.proofs.KnownAmong.{known-first, unknown-first, none-left, in-section}
 use Rattle.breaks.specs.Signals.{readAt, knownReadings}
 
 abbrev pub left : List ℕ → Cursor → List Descriptor
@@ -26,15 +24,10 @@ module _ (s : List ℕ) (c : Cursor) where
   unfolding knownReadings
   all-left h = ap (readAt s) (sym (in-section s c h))
 
-  pub nothing-read : 4096 < length s → knownReadings s c ≡ []
-  unfolding knownReadings readAt
-  nothing-read h = ap (readAt s) (too-long s c h)
-
-  pub known-left : (kind : Kind) (next : Cursor) → length s ≤ 4096 → stepOf s c ≡ Step.Descriptor kind next → isKnown kind ≡ true
-      → left s c ≡ standing s c ∷ left s next
-  unfolding readAt standing
-  known-left kind next h e k =
-      ap (readAt s) (known-first s c kind next e k) ∙ ap (λ (t : Trace). descriptorOf t ∷ left s next) (sym (known-here s c kind next h e k))
+  pub known-left : (kind : Kind) (next : Cursor) → stepOf s c ≡ Step.Descriptor kind next → isKnown kind ≡ true
+      → left s c ≡ descriptorOf (traceAt s c) ∷ left s next
+  unfolding readAt
+  known-left kind next e k = ap (readAt s) (known-first s c kind next e k)
 
   pub unknown-left : (kind : Kind) (next : Cursor) → stepOf s c ≡ Step.Descriptor kind next → isKnown kind ≡ false → left s c ≡ left s next
   unknown-left kind next e k = ap (readAt s) (unknown-first s c kind next e k)
@@ -42,7 +35,3 @@ module _ (s : List ℕ) (c : Cursor) where
   pub done-left : stepOf s c ≡ Step.Done → left s c ≡ []
   unfolding readAt
   done-left e = ap (readAt s) (none-left s c e)
-
-  pub broken-left : stepOf s c ≡ Step.Broken → left s c ≡ []
-  unfolding readAt
-  broken-left e = ap (readAt s) (none-whole s c e)

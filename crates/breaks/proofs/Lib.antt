@@ -1,5 +1,4 @@
 pub mod Openers
-pub mod Others
 pub mod Left
 pub mod Longest
 pub mod Standing

@@ -17,10 +17,9 @@ use Rattle.descriptors.specs.Loop.{traceAt}
 use Rattle.descriptors.proofs.Filled.{Going, following}
 use Rattle.known_walk.specs.Known.{isKnown}
 use Rattle.known_walk.proofs.Stands.{stands}
-use Rattle.known_walk.proofs.StandingRows.{known-here}
 use Rattle.segmentation_reading.specs.Places.{durationAt, uncancelledAt}
 use Rattle.descriptor_reading.specs.declared.answers.Descriptor.{Descriptor}
-use Rattle.descriptor_reading.specs.Descriptor.{standing, descriptorOf}
+use Rattle.descriptor_reading.specs.Descriptor.{descriptorOf}
 use Rattle.descriptor_reading.specs.Places.{tagAt, segmentationAt, descriptorAt}
 use Rattle.descriptor_reading.proofs.Tags.{tagOf, tag-is}
 use Rattle.descriptor_reading.proofs.Told.{descriptor-told}
@@ -74,17 +73,14 @@ module _ (s : List ℕ) (at : ℕ) where
 
 module _ (s : List ℕ) (c : Cursor) (fits : length s ≤ 4096) (here : Going s c) where
   module _ (known : isKnown (kindOf s (c .at)) ≡ true) where
-    told : standing s c ≡ descriptorAt s (c .at)
-    unfolding standing
-    told =
-        ap descriptorOf (known-here s c _ _ fits (here .steps) known)
-        ∙ descriptor-told s (c .at) (traceAt s c) (stands s c _ _ fits (here .steps) known)
+    told : descriptorOf (traceAt s c) ≡ descriptorAt s (c .at)
+    told = descriptor-told s (c .at) (traceAt s c) (stands s c _ _ fits (here .steps) known)
 
     tag : tagAt s (c .at) ≡ tagOf (kindOf s (c .at))
     tag = tag-is s (c .at) (traceAt s c) (stands s c _ _ fits (here .steps) known)
 
     first : left s c ≡ descriptorAt s (c .at) ∷ left s (following s c)
-    first = known-left s c _ _ fits (here .steps) known ∙ ap (λ (d : Descriptor). d ∷ left s (following s c)) told
+    first = known-left s c _ _ (here .steps) known ∙ ap (λ (d : Descriptor). d ∷ left s (following s c)) told
 
   -- a descriptor that is not asked is passed by
   pub passed : (g : Signal) (all : List Descriptor) → uncancelled s (c .at) ≡ false → Found g (left s c) all → Found g (left s (following s c)) all

@@ -78,10 +78,6 @@ descriptorOf t =
     (cond (isTag t 4) (Descriptor.Audio (look t "audio_count"))
     (Descriptor.Refused Refusal.NotHere)))))
 
--- what stands at a cursor
-unfoldable pub standing : List ℕ → Cursor → Descriptor
-standing s c = descriptorOf (standingTrace s c)
-
 -- ---- by number
 
 -- the characters of the DTMF descriptor with the rows t

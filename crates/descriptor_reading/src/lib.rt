@@ -5,7 +5,7 @@ mod parts;
 
 ghost use mathlib.Core.Path.{_≡_};
 ghost use Rattle.known_walk.specs.Known.{knownTrace};
-ghost use Rattle.descriptor_reading.specs.Descriptor.{standing, descriptorOf, standingUpid};
+ghost use Rattle.descriptor_reading.specs.Descriptor.{descriptorOf, standingUpid};
 ghost use Rattle.descriptor_reading.specs.Descriptor as says;
 pub use answers::AudioComponent;
 pub use answers::Descriptor;
@@ -22,17 +22,7 @@ pub use segmentation_reading::Segmentation;
 pub use segmentation_reading::SubSegments;
 use units::Refusal;
 
-// The known descriptor that stands at a cursor.
-pub fn descriptor_at(s: &[u8], cursor: Cursor) -> Descriptor
-    ensures { λ r. ⌜ r ≡ standing (now (s .entry)) cursor ⌝ }
-{
-    let Place::At(here) = known_walk::standing(s, cursor) else {
-        return Descriptor::Refused(Refusal::NotHere);
-    };
-    parts::descriptor(s, here)
-}
-
-// Where its UPID bytes lie.
+// Where the UPID bytes of the known descriptor lie that stands at a cursor.
 pub fn upid_at(s: &[u8], cursor: Cursor) -> Upid
     ensures { λ r. ⌜ r ≡ standingUpid (now (s .entry)) cursor ⌝ }
 {
