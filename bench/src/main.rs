@@ -18,6 +18,7 @@ mod yardstick;
 
 use cue::Cue;
 use jobs::Jobs;
+use profile::Asked;
 use samples::day::Day;
 use samples::{Ring, ACCEPTED_KINDS};
 use std::env;
@@ -33,7 +34,14 @@ fn main() -> ExitCode {
     let words: Vec<_> = env::args().skip(1).collect();
     let words: Vec<_> = words.iter().map(String::as_str).collect();
     let done = match words[..] {
-        ["profile", root, question, program] => profile::run(Path::new(root), question, program),
+        ["questions"] => {
+            profile::questions();
+            Ok(())
+        }
+        ["profile", root] => profile::run(Path::new(root), None),
+        ["profile", root, question, program] => {
+            profile::run(Path::new(root), Some(Asked { question, program }))
+        }
         ["agree", root, tally, yardstick, second, folder] => {
             let programs = Programs::new(tally, yardstick, second, folder);
             run(Path::new(root), &programs, false)
