@@ -1,5 +1,5 @@
 /* How much stack a call takes: it runs in a thread of its own whose stack was painted before, and
-   what is no longer painted was used. */
+   what is no longer painted was used. And a call with the stack further down. */
 #define _POSIX_C_SOURCE 200809L
 
 #include <pthread.h>
@@ -56,4 +56,13 @@ size_t stack_of(void (*run)(void *), void *about)
     size_t one = depth(&call, stack, 0xA5), other = depth(&call, stack, 0x5A);
     free(stack);
     return one > other ? one : other;
+}
+
+/* Both ends of the padding are written, so that all of it lies between this frame and the call's. */
+void run_below(size_t bytes, void (*run)(void *), void *about)
+{
+    volatile uint8_t padding[bytes + 1];
+    padding[0] = 0;
+    run(about);
+    padding[bytes] = 0;
 }

@@ -7,6 +7,8 @@ mod agree;
 mod by_second;
 mod cue;
 mod jobs;
+mod offsets;
+mod others;
 mod profile;
 mod proved;
 mod rounds;
@@ -79,6 +81,8 @@ fn run(root: &Path, programs: &Programs, timed: bool) -> Result<(), String> {
     sections(&jobs, &kinds, &lengths);
     let whole = whole::time(programs, files)?;
     tables::whole(&whole);
+    tables::offsets(&offsets::time(&jobs, &cues)?);
+    tables::others(&others::time(&jobs.break_answer, &cues, &programs.folder)?);
     tables::stack(&stack::calls(&jobs, &all[all.len() - STACK_CUES..]));
     tables::pages(stack::pages(&programs.tally, &whole.file)?);
     Ok(())

@@ -121,6 +121,14 @@ pub fn lines(cue: &Cue, lent: &mut Lent) -> u64 {
     written + last_line(held, carry, &mut out[written as usize..])
 }
 
+/// The answers to a text of many lines, in one turn. What is held goes to the front of the lent memory,
+/// the answers behind it.
+pub fn turn_of(cue: &Cue, lent: &mut Lent) -> u64 {
+    let (carry, out) = lent.bytes.split_at_mut(LONGEST_TEXT);
+    let [_, _, written] = turn(0, &cue.text, carry, out);
+    written
+}
+
 /// The answers to a stream that comes in these pieces, in turns with so much room.
 pub fn stream<'a>(pieces: impl Iterator<Item = &'a [u8]>, room: usize) -> Vec<u8> {
     let (mut carry, mut out) = (vec![0; LONGEST_TEXT], vec![0; room]);

@@ -30,8 +30,13 @@ pub struct Line {
 
 /// Times one job on these cues.
 pub fn time(job: &Job, cues: &[Cue]) -> Line {
-    let mut proved = Contender::new(&job.proved, cues);
-    let mut c = Contender::new(&job.yardstick, cues);
+    race(&job.proved, &job.yardstick, cues, &Lent::ample())
+}
+
+/// Times the proved library and the yardstick on these cues, in such memory.
+pub fn race(proved: &Program, c: &Program, cues: &[Cue], room: &Lent) -> Line {
+    let mut proved = Contender::new(proved, cues, room);
+    let mut c = Contender::new(c, cues, room);
     let passes = (ROUND_NS / proved.once()).ceil() as usize;
     (proved.passes, c.passes) = (passes, passes);
     let round = proved.once() + c.once();
@@ -56,7 +61,7 @@ pub fn time(job: &Job, cues: &[Cue]) -> Line {
 
 /// The second program's median, in nanoseconds of a call.
 pub fn time_second(job: &Job, cues: &[Cue]) -> f64 {
-    let mut second = Contender::new(&job.second, cues);
+    let mut second = Contender::new(&job.second, cues, &Lent::ample());
     for _ in 0..OF_SECOND {
         second.run();
     }
@@ -73,12 +78,12 @@ struct Contender<'a> {
 }
 
 impl<'a> Contender<'a> {
-    fn new(program: &'a Program, cues: &'a [Cue]) -> Contender<'a> {
+    fn new(program: &'a Program, cues: &'a [Cue], room: &Lent) -> Contender<'a> {
         Contender {
             program,
             cues,
             passes: 1,
-            lent: Lent::ample(),
+            lent: room.clone(),
             times: Vec::new(),
         }
     }

@@ -2,9 +2,11 @@
 
 use crate::cue::Cue;
 use crate::jobs::{Job, Jobs};
+use crate::offsets::{Lines, Spread, OFFSETS};
+use crate::others::{Library, Others};
 use crate::rounds::{time, time_second, Line};
 use crate::samples::Ring;
-use crate::whole::{Timed, Whole};
+use crate::whole::Whole;
 
 /// Each job on those cues of a day that it can be asked of.
 pub fn day(jobs: &Jobs, cues: &[Cue], says: &str) {
@@ -55,38 +57,76 @@ pub fn rings(name: &str, rings: &[Ring], jobs: &[&Job]) {
 pub fn whole(whole: &Whole) {
     let megabytes = whole.bytes as f64 / 1e6;
     title(&format!(
-        "Lines end to end: a file of {} lines, {megabytes:.0} MB",
+        "Lines end to end: a file of {} lines, {megabytes:.0} MB, at {OFFSETS} stack offsets",
         whole.lines
     ));
     head(
         "program",
-        &[
-            "median of a line",
-            "best of a line",
-            "best, million lines a second",
-            "to C, median",
-            "to C, best",
-        ],
+        &[&SPREAD[..], &["least, million lines a second"]].concat(),
     );
-    let c = &whole.yardstick;
-    for (name, timed) in [
+    for (name, times) in [
         ("tally", &whole.tally),
         ("C", &whole.yardstick),
         ("second", &whole.second),
     ] {
-        program(name, timed, c);
+        let million = two(1e3 / times.least);
+        println!(
+            "| {name} | {} | {million} |",
+            spread(times, &whole.yardstick)
+        );
     }
 }
 
-fn program(name: &str, timed: &Timed, c: &Timed) {
-    println!(
-        "| {name} | {} | {} | {} | {} | {} |",
-        ns(timed.median),
-        ns(timed.best),
-        two(1e3 / timed.best),
-        two(timed.median / c.median),
-        two(timed.best / c.best)
-    );
+/// Lines in this process.
+pub fn offsets(questions: &[Lines]) {
+    title(&format!("Lines at {OFFSETS} stack offsets"));
+    head("question", &SPREAD);
+    for Lines { name, proved, c } in questions {
+        println!("| {name}, proved | {} |", spread(proved, c));
+        println!("| {name}, C | {} |", spread(c, c));
+    }
+}
+
+/// What is said of times of a line at several offsets.
+const SPREAD: [&str; 5] = ["least", "median", "worst", "to C, median", "to C, least"];
+
+fn spread(times: &Spread, c: &Spread) -> String {
+    [
+        ns(times.least),
+        ns(times.median),
+        ns(times.worst),
+        two(times.median / c.median),
+        two(times.least / c.least),
+    ]
+    .join(" | ")
+}
+
+/// Other libraries beside the two sides, or a line of words where there is none.
+pub fn others(others: &Others) {
+    title("Other libraries: accept and break, on the sections of the day");
+    let missing = |(name, library): &(&str, Library)| match library {
+        Library::Missing(word) => Some(format!("{name} is {word}")),
+        Library::Timed { .. } => None,
+    };
+    let words = others.libraries.iter().map(missing);
+    if let Some(words) = words.collect::<Option<Vec<_>>>() {
+        println!("No times: {}.", words.join(", "));
+        return;
+    }
+    head("program", &["time", "to C", "same answers"]);
+    let (ours, all) = (&others.ours, others.sections);
+    for (name, time) in [("proved", ours.proved), ("C", ours.c)] {
+        println!("| {name} | {} | {} | {all} |", ns(time), two(time / ours.c));
+    }
+    for (name, library) in &others.libraries {
+        match library {
+            Library::Missing(word) => println!("| {name} | {word} | | |"),
+            Library::Timed { median, same } => {
+                let ratio = two(median / ours.c);
+                println!("| {name} | {} | {ratio} | {same} |", ns(*median));
+            }
+        }
+    }
 }
 
 /// The stack of each call.

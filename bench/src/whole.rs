@@ -1,7 +1,10 @@
-//! Lines end to end: each program reads a file of lines and writes its answers to nowhere.
+//! Lines end to end: each program reads a file of lines and writes its answers to nowhere, at several
+//! stack offsets.
 
-use crate::rounds::{least, median};
+use crate::offsets::{self, Spread};
+use crate::rounds::least;
 use crate::samples::day::Day;
+use std::ffi::{c_int, c_ulong};
 use std::fs::{self, File};
 use std::io;
 use std::path::{Path, PathBuf};
@@ -12,7 +15,8 @@ use std::time::Instant;
 const LINES: usize = 500_000;
 const FEWER_LINES: usize = 20_000;
 
-const RUNS: usize = 11;
+/// How often each program runs at an offset, of which the least time counts.
+const RUNS: usize = 3;
 
 /// The programs, and the folder in which the files are made.
 pub struct Programs {
@@ -22,19 +26,14 @@ pub struct Programs {
     pub folder: PathBuf,
 }
 
-/// Nanoseconds of a line.
-pub struct Timed {
-    pub median: f64,
-    pub best: f64,
-}
-
+/// The programs' times of a line over the offsets, and the file that they read.
 pub struct Whole {
     pub file: PathBuf,
     pub lines: usize,
     pub bytes: usize,
-    pub tally: Timed,
-    pub yardstick: Timed,
-    pub second: Timed,
+    pub tally: Spread,
+    pub yardstick: Spread,
+    pub second: Spread,
 }
 
 /// The files of lines.
@@ -57,16 +56,15 @@ pub fn compare(programs: &Programs, day: &Day) -> Result<Files, String> {
 }
 
 pub fn time(programs: &Programs, files: Files) -> Result<Whole, String> {
+    let before = laid_out(NOT_BY_CHANCE);
     let mut times = [Vec::new(), Vec::new(), Vec::new()];
-    for _ in 0..RUNS {
-        times[0].push(programs.tally().took(&files.all)? / LINES as f64);
-        times[1].push(programs.yardstick().took(&files.all)? / LINES as f64);
-        times[2].push(programs.second().took(&files.fewer)? / FEWER_LINES as f64);
+    for offset in offsets::all() {
+        for (times, time) in times.iter_mut().zip(at(offset, programs, &files)?) {
+            times.push(time);
+        }
     }
-    let [tally, yardstick, second] = times.map(|times| Timed {
-        median: median(&times),
-        best: least(&times),
-    });
+    laid_out(before);
+    let [tally, yardstick, second] = times.map(|times| Spread::of(&times));
     Ok(Whole {
         lines: LINES,
         bytes: fs::metadata(&files.all).map_err(failed)?.len() as usize,
@@ -75,6 +73,30 @@ pub fn time(programs: &Programs, files: Files) -> Result<Whole, String> {
         second,
         file: files.all,
     })
+}
+
+/// The least time of a line at an offset, of the tally, the yardstick and the second program.
+fn at(offset: usize, programs: &Programs, files: &Files) -> Result<[f64; 3], String> {
+    let mut times = [Vec::new(), Vec::new(), Vec::new()];
+    for _ in 0..RUNS {
+        times[0].push(programs.tally().took(&files.all, offset)? / LINES as f64);
+        times[1].push(programs.yardstick().took(&files.all, offset)? / LINES as f64);
+        times[2].push(programs.second().took(&files.fewer, offset)? / FEWER_LINES as f64);
+    }
+    Ok(times.map(|times| least(&times)))
+}
+
+extern "C" {
+    fn personality(persona: c_ulong) -> c_int;
+}
+
+/// Linux's word for stacks that lie where the environment puts them and not by chance.
+const NOT_BY_CHANCE: c_int = 0x0004_0000;
+
+/// How programs that are started from here on are laid out, and how they were before. Where the system
+/// does not grant it, chance moves each stack as well, and the offsets are as many all the same.
+fn laid_out(persona: c_int) -> c_int {
+    unsafe { personality(persona as c_ulong) }
 }
 
 fn written(programs: &Programs, day: &Day, name: &str, lines: usize) -> Result<PathBuf, String> {
@@ -129,9 +151,11 @@ impl Run<'_> {
         }
     }
 
-    /// The nanoseconds from its start to its end.
-    fn took(&self, file: &Path) -> Result<f64, String> {
+    /// The nanoseconds from its start to its end. A system keeps the environment above the stack, so
+    /// that a variable as long as the offset moves it down so far.
+    fn took(&self, file: &Path, offset: usize) -> Result<f64, String> {
         let mut command = self.command(file)?;
+        command.env_clear().env("OFFSET", "x".repeat(offset));
         let start = Instant::now();
         let status = command.stdout(Stdio::null()).status().map_err(failed)?;
         let took = start.elapsed().as_nanos() as f64;

@@ -9,6 +9,11 @@ struct Stream {
     line: [u8; LONGEST_TEXT + 1],
 }
 
+const START: Stream = Stream {
+    held: 0,
+    line: [0; LONGEST_TEXT + 1],
+};
+
 extern "C" {
     fn yardstick_prepare();
     fn yardstick_crc32(bytes: *const u8, len: usize) -> u32;
@@ -94,12 +99,18 @@ pub fn line(cue: &Cue, lent: &mut Lent) -> u64 {
     unsafe { yardstick_line(cue.text.as_ptr(), cue.text.len(), to.as_mut_ptr()) as u64 }
 }
 
+/// The answers to a text of many lines, in one turn, where the proved library's stand too. The lent
+/// memory has the room behind them that yardstick.h asks for.
+pub fn turn_of(cue: &Cue, lent: &mut Lent) -> u64 {
+    let (mut stream, out) = (START, &mut lent.bytes[LONGEST_TEXT..]);
+    assert!(out.len() >= 4 * cue.text.len() + LONGEST_LINE);
+    let (from, to) = (cue.text.as_ptr(), out.as_mut_ptr());
+    unsafe { yardstick_lines(&mut stream, from, cue.text.len(), to) as u64 }
+}
+
 /// The answers to a stream that comes in these pieces.
 pub fn stream<'a>(pieces: impl Iterator<Item = &'a [u8]>) -> Vec<u8> {
-    let mut stream = Stream {
-        held: 0,
-        line: [0; LONGEST_TEXT + 1],
-    };
+    let mut stream = START;
     let mut answers = Vec::new();
     for piece in pieces {
         let mut out = vec![0; 4 * piece.len() + LONGEST_LINE];
