@@ -60,20 +60,17 @@ pub fn whole(whole: &Whole) {
         "Lines end to end: a file of {} lines, {megabytes:.0} MB, at {OFFSETS} stack offsets",
         whole.lines
     ));
-    head(
-        "program",
-        &[&SPREAD[..], &["least, million lines a second"]].concat(),
-    );
-    for (name, times) in [
+    let others = ["million lines a second", "from start to end"];
+    head("program", &[&SPREAD[..], &others].concat());
+    let c = &whole.yardstick.processor;
+    for (name, timed) in [
         ("tally", &whole.tally),
         ("C", &whole.yardstick),
         ("second", &whole.second),
     ] {
-        let million = two(1e3 / times.least);
-        println!(
-            "| {name} | {} | {million} |",
-            spread(times, &whole.yardstick)
-        );
+        let (times, elapsed) = (spread(&timed.processor, c), ns(timed.elapsed));
+        let million = two(1e3 / timed.processor.least);
+        println!("| {name} | {times} | {million} | {elapsed} |");
     }
 }
 

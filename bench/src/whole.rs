@@ -2,9 +2,9 @@
 //! stack offsets.
 
 use crate::offsets::{self, Spread};
-use crate::rounds::least;
+use crate::rounds::{least, median};
 use crate::samples::day::Day;
-use std::ffi::{c_int, c_ulong};
+use std::ffi::{c_int, c_long, c_ulong};
 use std::fs::{self, File};
 use std::io;
 use std::path::{Path, PathBuf};
@@ -15,7 +15,7 @@ use std::time::Instant;
 const LINES: usize = 500_000;
 const FEWER_LINES: usize = 20_000;
 
-/// How often each program runs at an offset, of which the least time counts.
+/// How often each program runs at an offset, of which the least times count.
 const RUNS: usize = 3;
 
 /// The programs, and the folder in which the files are made.
@@ -26,14 +26,27 @@ pub struct Programs {
     pub folder: PathBuf,
 }
 
-/// The programs' times of a line over the offsets, and the file that they read.
+/// Nanoseconds of a line: the processor's, and those from a program's start to its end.
+#[derive(Clone, Copy)]
+struct Took {
+    processor: f64,
+    elapsed: f64,
+}
+
+/// The processor's over the offsets, and the median from start to end.
+pub struct Timed {
+    pub processor: Spread,
+    pub elapsed: f64,
+}
+
+/// The programs' times, and the file that they read.
 pub struct Whole {
     pub file: PathBuf,
     pub lines: usize,
     pub bytes: usize,
-    pub tally: Spread,
-    pub yardstick: Spread,
-    pub second: Spread,
+    pub tally: Timed,
+    pub yardstick: Timed,
+    pub second: Timed,
 }
 
 /// The files of lines.
@@ -64,7 +77,7 @@ pub fn time(programs: &Programs, files: Files) -> Result<Whole, String> {
         }
     }
     laid_out(before);
-    let [tally, yardstick, second] = times.map(|times| Spread::of(&times));
+    let [tally, yardstick, second] = times.map(|times| timed(&times));
     Ok(Whole {
         lines: LINES,
         bytes: fs::metadata(&files.all).map_err(failed)?.len() as usize,
@@ -75,15 +88,29 @@ pub fn time(programs: &Programs, files: Files) -> Result<Whole, String> {
     })
 }
 
-/// The least time of a line at an offset, of the tally, the yardstick and the second program.
-fn at(offset: usize, programs: &Programs, files: &Files) -> Result<[f64; 3], String> {
-    let mut times = [Vec::new(), Vec::new(), Vec::new()];
+/// What each program takes at an offset.
+fn at(offset: usize, programs: &Programs, files: &Files) -> Result<[Took; 3], String> {
+    let mut took = [Vec::new(), Vec::new(), Vec::new()];
     for _ in 0..RUNS {
-        times[0].push(programs.tally().took(&files.all, offset)? / LINES as f64);
-        times[1].push(programs.yardstick().took(&files.all, offset)? / LINES as f64);
-        times[2].push(programs.second().took(&files.fewer, offset)? / FEWER_LINES as f64);
+        took[0].push(programs.tally().took(&files.all, LINES, offset)?);
+        took[1].push(programs.yardstick().took(&files.all, LINES, offset)?);
+        took[2].push(programs.second().took(&files.fewer, FEWER_LINES, offset)?);
     }
-    Ok(times.map(|times| least(&times)))
+    Ok(took.map(|runs| Took {
+        processor: least(&each(&runs, |took| took.processor)),
+        elapsed: least(&each(&runs, |took| took.elapsed)),
+    }))
+}
+
+fn timed(took: &[Took]) -> Timed {
+    Timed {
+        processor: Spread::of(&each(took, |took| took.processor)),
+        elapsed: median(&each(took, |took| took.elapsed)),
+    }
+}
+
+fn each(took: &[Took], which: fn(&Took) -> f64) -> Vec<f64> {
+    took.iter().map(which).collect()
 }
 
 extern "C" {
@@ -151,20 +178,37 @@ impl Run<'_> {
         }
     }
 
-    /// The nanoseconds from its start to its end. A system keeps the environment above the stack, so
-    /// that a variable as long as the offset moves it down so far.
-    fn took(&self, file: &Path, offset: usize) -> Result<f64, String> {
+    /// What it takes for a line. A system keeps the environment above the stack, so that a variable as
+    /// long as the offset moves it down so far.
+    fn took(&self, file: &Path, lines: usize, offset: usize) -> Result<Took, String> {
         let mut command = self.command(file)?;
         command.env_clear().env("OFFSET", "x".repeat(offset));
-        let start = Instant::now();
+        let (start, before) = (Instant::now(), processor());
         let status = command.stdout(Stdio::null()).status().map_err(failed)?;
-        let took = start.elapsed().as_nanos() as f64;
+        let (elapsed, after) = (start.elapsed().as_nanos() as f64, processor());
         if status.success() {
-            Ok(took)
+            Ok(Took {
+                processor: (after - before) / lines as f64,
+                elapsed: elapsed / lines as f64,
+            })
         } else {
             Err(format!("{} fails", self.0.display()))
         }
     }
+}
+
+extern "C" {
+    fn getrusage(who: c_int, usage: *mut [c_long; 18]) -> c_int;
+}
+
+/// The nanoseconds that the processor gave to the programs that have ended, and to the system for them.
+/// Other work on the machine makes a program wait, which is no part of this.
+fn processor() -> f64 {
+    const PROGRAMS_THAT_ENDED: c_int = -1;
+    let mut usage = [0; 18];
+    unsafe { getrusage(PROGRAMS_THAT_ENDED, &mut usage) };
+    let [seconds, microseconds, of_system, microseconds_of_system, ..] = usage;
+    (seconds + of_system) as f64 * 1e9 + (microseconds + microseconds_of_system) as f64 * 1e3
 }
 
 fn failed(error: io::Error) -> String {
