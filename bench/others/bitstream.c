@@ -1,7 +1,7 @@
-/* biTStream (libbitstream-dev, headers alone) on sections of a file. Written from memory
-   of its published interface, and not compiled yet where the package is installed. It reads fields
-   where they stand and checks little: the length is held to the bytes here, the CRC to its psi_check_crc, and the rest to
-   its scte35_validate. So it may answer for sections that the proved library refuses. */
+/* biTStream (libbitstream-dev, headers alone) on sections of a file. Written from memory of its
+   published interface, and not compiled yet where the package is installed. It reads fields where they
+   stand and checks little: the length is held to the bytes here, the CRC to its psi_check_crc, and the
+   rest to its scte35_validate. So it may answer for sections that the proved library refuses. */
 #include "times.h"
 
 #include <bitstream/mpeg/psi.h>

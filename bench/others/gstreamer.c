@@ -1,7 +1,7 @@
 /* GStreamer's mpegts library (libgstreamer-plugins-bad1.0-dev, from 1.20 on) on sections of a file.
    Written from memory of its published interface, and not compiled yet where the package is installed.
-   It checks the CRC and reads every field but those in descriptors. A section owns the bytes that it is made of,
-   so that each call copies them, as whoever takes them from a stream does. */
+   It checks the CRC and reads every field but those in descriptors. A section owns the bytes that it
+   is made of, so that each call copies them, as whoever takes them from a stream does. */
 #include "times.h"
 
 #include <gst/gst.h>
