@@ -1,12 +1,13 @@
--- The answer to a text, by what reading it gave; and the answer to a text that is too long.
+-- The answer to a text, by what reading it gave; a room that is large enough; and the answer to a text that is too long.
 -- Assumes nothing.
 use mathlib.Core.Path.{_≡_, refl, sym, ap, ap₂, _∙_}
 use mathlib.Core.Logic.{⊎-elim}
 use mathlib.Core.List.{List}
-use Prim.Native.Nat.{ℕ, zero, suc, _≤_, _<_}
+use Prim.Native.Nat.{ℕ, zero, suc, _*_, _≤_, _<_}
 use native.Mathlib.Omega.{arith}
 use lib.ListN.{length, take, drop}
 use lib.Seq.{take-at}
+use borrow.Author.Tests.{le-ltb}
 use Rattle.bits.proofs.Cases.{le-or-lt}
 use Rattle.units.specs.declared.refusals.Refusal.{Refusal}
 use Rattle.units.specs.declared.refusals.Refusal.the-variants.{TextLen}
@@ -14,6 +15,7 @@ use Rattle.units.specs.declared.refusals.Written.{Written}
 use Rattle.units.specs.Answers.{answer, memory}
 use Rattle.breaks.specs.Breaks.{breakAnswer}
 use Rattle.text.specs.Text.{readRow, read, readInto, count, decoded}
+use Rattle.base64.proofs.Counts.{before-le}
 use Rattle.base64.proofs.Decoded.{length-decoded}
 use Rattle.text.proofs.Rows.{row-long, row-room, accepted}
 use Rattle.spelling.specs.declared.Line.{Line}
@@ -55,6 +57,18 @@ module _ (t out : List ℕ) where
   pub answered : (n : ℕ) → read t out ≡ Written.Count n → inMillis (breakAnswer (take n (readInto t out))) ≡ answerIn t (length out)
   unfolding answerIn
   answered n e = ap (λ (s : List ℕ). inMillis (breakAnswer s)) (front n e) ∙ ap (λ (r : ℕ). answerBy r (decoded t)) (sym (passes n e .0))
+
+-- the bytes of a text are three for each four characters at most
+bytes : (t : List ℕ) (room : ℕ) → 3 * length t ≤ 4 * room → count t ≤ room
+unfolding count
+bytes t room h = omega (arith, before-le t)
+
+-- a room of three bytes for each four characters is as good as that of the longest text
+pub roomy : (t : List ℕ) (room : ℕ) → 3 * length t ≤ 4 * room → room ≤ 4098 → answerIn t room ≡ lineAnswer t
+unfolding lineAnswer answerIn readRow
+roomy t room h most =
+    let fits : count t ≤ room = bytes t room h in
+    rw (le-ltb room (count t) fits, le-ltb 4098 (count t) (omega arith))
 
 -- a text that is too long is refused whatever it holds
 pub too-long : (t : List ℕ) → 5464 < length t → lineAnswer t ≡ Line.Refused TextLen

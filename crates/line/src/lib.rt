@@ -14,7 +14,15 @@ use units::Written;
 pub fn answer(text: &[u8]) -> Line
     ensures { λ r. ⌜ r ≡ says.lineAnswer (now (text .entry)) ⌝ }
 {
-    // the bytes of the longest text
+    // four characters give three bytes at most, and the room is cleared for each text: a short one takes a small room
+    if text.len() <= 128 {
+        let mut section = [0u8; 96];
+        return answer_in(text, &mut section);
+    }
+    if text.len() <= 1024 {
+        let mut section = [0u8; 768];
+        return answer_in(text, &mut section);
+    }
     let mut section = [0u8; MOST_TEXT_BYTES];
     answer_in(text, &mut section)
 }
