@@ -4,7 +4,7 @@ use mathlib.Core.Path.{_≡_, refl, sym, ap, ap₂, _∙_, subst}
 use mathlib.Core.Bool.{Bool, true, false, cond}
 use mathlib.Core.Logic.{⊎-elim}
 use mathlib.Core.List.{List, [], _∷_, _++_, append-assoc, append-nil}
-use Prim.Native.Nat.{ℕ, suc, _+_, _-_, _≤_, _<_}
+use Prim.Native.Nat.{ℕ, zero, suc, _+_, _-_, _≤_, _<_}
 use native.Mathlib.Nat.{zero-add, add-zero, add-assoc, sub-zero}
 use native.Mathlib.Omega.{arith}
 use lib.ListN.{length, getD, take, drop, length-append, length-drop, take-append-drop}
@@ -83,6 +83,36 @@ module _ (x : List ℕ) (at : ℕ) where
   pub ends-last : at ≡ length x → lineLength (drop at x) ≡ 0
   unfolding lineLength
   ends-last e = ap (λ (k : ℕ). lineLength (drop k x)) e ∙ ap lineLength (drop-length x)
+
+-- the characters of a line up to a place, and the rest of the line from there
+rest-of-line : (x : List ℕ) (k : ℕ) → k ≤ lineLength x → lineLength x ≡ k + lineLength (drop k x)
+unfolding lineLength
+rest-of-line x zero h = omega arith
+rest-of-line [] (suc k) h = absurd (omega arith)
+rest-of-line (c ∷ cs) (suc k) h = by (eqb c 10) (rest-of-line cs k) h
+  where
+    by : (b : Bool) → (k ≤ lineLength cs → lineLength cs ≡ k + lineLength (drop k cs)) → suc k ≤ cond b 0 (suc (lineLength cs))
+        → cond b 0 (suc (lineLength cs)) ≡ suc k + lineLength (drop k cs)
+    by true next h = absurd (omega arith)
+    by false next h = omega (arith, next (omega arith))
+
+module _ (x : List ℕ) (at k : ℕ) where
+  pub goes-past : k ≤ lineLength (drop at x) → lineLength (drop at x) ≡ k + lineLength (drop (at + k) x)
+  goes-past h = rest-of-line (drop at x) k h ∙ ap (λ (l : List ℕ). k + lineLength l) (drop-drop k at x)
+
+  -- the first k + 1 characters from a place on have a newline where the last of them is one, and elsewhere where the first k have one
+  pub newline-seen : at + k < length x → getD x (at + k) 0 ≡ 10 → true ≡ ltb (lineLength (drop at x)) (k + 1)
+  newline-seen h e =
+      let n = lineLength (drop at x) in
+      sym (lt-ltb n (k + 1) (⊎-elim (λ l. omega (arith, goes-past l, ends-here x (at + k) h e)) (λ l. omega arith) (le-or-lt k n)))
+
+  pub newline-not-seen : at + k < length x → (getD x (at + k) 0 ≡ 10 → ⊥)
+      → ltb (lineLength (drop at x)) k ≡ ltb (lineLength (drop at x)) (k + 1)
+  newline-not-seen h e =
+      let n = lineLength (drop at x) in
+      ⊎-elim (λ l. le-ltb n k l ∙ sym (le-ltb n (k + 1) (omega (arith, goes-past l, goes-on x (at + k) h e))))
+      (λ l. lt-ltb n k l ∙ sym (lt-ltb n (k + 1) (omega arith)))
+      (le-or-lt k n)
 
 pub end-inside : (x : List ℕ) (at end : ℕ) → at ≤ length x → end ≡ at + lineLength (drop at x) → end ≤ length x
 end-inside x at end h e = omega (arith, line-inside (drop at x), length-drop at x)

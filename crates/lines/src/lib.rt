@@ -6,6 +6,7 @@ mod carry;
 ghost use mathlib.Core.Path.{_≡_};
 ghost use Prim.Native.Nat.{_+_, _≤_};
 ghost use lib.ListN.{length, drop};
+ghost use lib.Dec.{ltb};
 ghost use Rattle.lines.specs.Turns.{turnAnswer, turnCarry, turnOut, lastAnswer, lastOut, lineLength};
 pub use answers::Held;
 pub use answers::Turn;
@@ -57,6 +58,12 @@ fn line_end(input: &[u8], from: usize) -> usize
     ensures { λ r. ⌜ r ≡ from + lineLength (drop from (now (input .entry))) ⌝ }
 {
     let mut at = from;
+    while 32 <= input.len() - at {
+        if has_newline(input, at) {
+            break;
+        }
+        at += 32;
+    }
     while at < input.len() {
         if input[at] == b'\n' {
             return at;
@@ -64,6 +71,21 @@ fn line_end(input: &[u8], from: usize) -> usize
         at += 1;
     }
     at
+}
+
+// Whether one of the 32 characters from a place on is a newline. All of them are looked at, since a loop without an early end
+// becomes vector code.
+fn has_newline(input: &[u8], at: usize) -> bool
+    requires { ⌜ at + 32 ≤ length (now input) ⌝ }
+    ensures { λ r. ⌜ r ≡ ltb (lineLength (drop at (now (input .entry)))) 32 ⌝ }
+{
+    let mut found = false;
+    for k in 0..32 {
+        if input[at + k] == b'\n' {
+            found = true;
+        }
+    }
+    found
 }
 
 // The end of the stream: the answer of the line that is held, if one is.
