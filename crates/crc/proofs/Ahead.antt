@@ -6,8 +6,8 @@ use native.Mathlib.Nat.{mod-lt, mod-eq-of-lt, mul-le-mul-left, zero-add, suc-add
 use native.Mathlib.Omega.{arith}
 use lib.Pow.{pow-pos, split, high, low}
 use lib.Bits.{bitXor, xor-comm, xor-zero-r, xor-mod, xor-shr, xor-lt, xor-shifted}
-use Rattle.crc_tables.specs.Steps.{step, zeros, ahead}
-use Rattle.crc_tables.proofs.Steps.{step-up, zeros-lt, zeros-linear}
+use Rattle.crc_steps.specs.Steps.{step, zeros, ahead}
+use Rattle.crc_steps.proofs.Steps.{step-up, zeros-lt, zeros-linear}
 
 pub zeros-add : (m n r : ℕ) → zeros (m + n) r ≡ zeros n (zeros m r)
 unfolding zeros

@@ -10,9 +10,9 @@ use lib.Pow.{pow-add, shl-lt}
 use lib.Bits.{bitXor, xor-zero-r, xor-lt, xor-shifted}
 use Rattle.bits.specs.Bits.{num}
 use Rattle.bits.proofs.Num.{Bits, num-first, num-zero, num-lt}
-use Rattle.crc_tables.specs.Steps.{step, zeros}
-use Rattle.crc_tables.proofs.Xor.{xor-assoc, xor-zero}
-use Rattle.crc_tables.proofs.Steps.{polynomial, step-zero, step-bit, step-lt, step-linear, step-up}
+use Rattle.crc_steps.specs.Steps.{step, zeros}
+use Rattle.crc_steps.proofs.Xor.{xor-assoc, xor-zero}
+use Rattle.crc_steps.proofs.Steps.{polynomial, step-zero, step-bit, step-lt, step-linear, step-up}
 use Rattle.crc.specs.Crc.{register}
 
 -- the register comes to 0 from 0 alone

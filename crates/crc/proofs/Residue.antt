@@ -14,8 +14,8 @@ use Rattle.bits.specs.Bits.{bit, num}
 use Rattle.bits.proofs.Num.{num-lt, num-ext}
 use Rattle.bits.proofs.Bytes.{AreBytes, bit-lt, word, num-word}
 use Rattle.bits.proofs.Parts.{bit-left, bit-right}
-use Rattle.crc_tables.specs.Steps.{zeros}
-use Rattle.crc_tables.proofs.Xor.{xor-zero}
+use Rattle.crc_steps.specs.Steps.{zeros}
+use Rattle.crc_steps.proofs.Xor.{xor-zero}
 use Rattle.crc.specs.Crc.{register, crc32, be32}
 use Rattle.crc.proofs.Register.{zeros-zero, zeros-back, register-ext, register-lt}
 use Rattle.crc.proofs.Turns.{four-turn}

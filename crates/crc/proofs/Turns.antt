@@ -10,8 +10,8 @@ use lib.Bits.{bitXor, xor-lt}
 use Rattle.bits.specs.Bits.{bit, num}
 use Rattle.bits.proofs.Num.{num-lt}
 use Rattle.bits.proofs.Bytes.{AreBytes, bit-lt, byte-field}
-use Rattle.crc_tables.specs.Steps.{zeros}
-use Rattle.crc_tables.proofs.Steps.{zeros-lt, zeros-linear}
+use Rattle.crc_steps.specs.Steps.{zeros}
+use Rattle.crc_steps.proofs.Steps.{zeros-lt, zeros-linear}
 use Rattle.crc.specs.Crc.{register}
 use Rattle.crc.proofs.Register.{register-lt, register-more}
 use Rattle.crc.proofs.Ahead.{zeros-add}

@@ -5,7 +5,7 @@ ghost use Prim.Native.Nat.{_+_, _*_, _/_, _%_, _^_, _≤_, _<_};
 ghost use lib.ListN.{length, getD};
 ghost use lib.Bits.{bitXor};
 ghost use Rattle.bits.specs.Bits.{bit, num};
-ghost use Rattle.crc_tables.specs.Steps.{zeros};
+ghost use Rattle.crc_steps.specs.Steps.{zeros};
 ghost use Rattle.crc.specs.Crc.{crc32};
 ghost use Rattle.crc.specs.Turns.{Passed};
 
@@ -41,14 +41,14 @@ fn rest(s: &[u8], mut i: usize, mut r: u32) -> u32
 fn eight(r: u32, a: u32, b: u32) -> u32
     ensures { λ q. ⌜ q ≡ bitXor (zeros 64 (bitXor r a)) (zeros 32 b) ⌝ }
 {
-    high(crc_tables::ahead(r ^ a)) ^ low(crc_tables::ahead(b))
+    high(crc_steps::ahead(r ^ a)) ^ low(crc_steps::ahead(b))
 }
 
 // The register r after the four bytes of the word a.
 fn four(r: u32, a: u32) -> u32
     ensures { λ q. ⌜ q ≡ zeros 32 (bitXor r a) ⌝ }
 {
-    low(crc_tables::ahead(r ^ a))
+    low(crc_steps::ahead(r ^ a))
 }
 
 // The register r after the byte b.
@@ -56,7 +56,7 @@ fn one(r: u32, b: u8) -> u32
     ensures { λ q. ⌜ q ≡ zeros 8 (bitXor r (b * 2 ^ 24)) ⌝ }
 {
     let x = (r >> 24) ^ (b as u32);
-    (r << 8) ^ low(crc_tables::byte_ahead(x))
+    (r << 8) ^ low(crc_steps::byte_ahead(x))
 }
 
 // The number that the four bytes from i on make, most significant first.

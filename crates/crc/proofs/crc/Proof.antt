@@ -5,7 +5,7 @@ use Prim.Native.Nat.{ℕ, _-_}
 use native.Mathlib.Omega.{arith}
 use lib.ListN.{length}
 use lib.Bits.{bitXor}
-use Rattle.crc_tables.specs.Steps.{zeros}
+use Rattle.crc_steps.specs.Steps.{zeros}
 use Rattle.crc.specs.Crc.{register}
 use Rattle.crc.specs.Turns.{Passed}
 use Rattle.crc.proofs.Turns.{four-turn, eight-turn}

@@ -7,7 +7,7 @@ use lib.ListN.{length, getD}
 use lib.Bits.{bitXor}
 use Rattle.bits.specs.Bits.{bit}
 use Rattle.bits.proofs.Bytes.{AreBytes}
-use Rattle.crc_tables.specs.Steps.{zeros}
+use Rattle.crc_steps.specs.Steps.{zeros}
 use Rattle.crc.specs.Crc.{register, crc32}
 use Rattle.crc.specs.Turns.{Passed}
 use Rattle.crc.proofs.Turns.{one-turn}

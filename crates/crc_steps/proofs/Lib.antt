@@ -1,4 +1,4 @@
 pub mod Xor
 pub mod Steps
-pub mod Nibbles
+pub mod Bytes
 pub mod Arms

@@ -6,8 +6,8 @@ use Prim.Native.Nat.{ℕ, zero, suc, _*_, _/_, _%_, _^_, _<_}
 use native.Mathlib.Omega.{arith}
 use lib.Dec.{eqb, lit<}
 use lib.Bits.{bitXor, xor-zero-r, xor-mod, xor-shr, xor-lt}
-use Rattle.crc_tables.specs.Steps.{step, zeros}
-use Rattle.crc_tables.proofs.Xor.{two-bits, xor-shl, xor-swap}
+use Rattle.crc_steps.specs.Steps.{step, zeros}
+use Rattle.crc_steps.proofs.Xor.{two-bits, xor-shl, xor-swap}
 
 abbrev pub polynomial : ℕ
 polynomial = 0x04C11DB7
