@@ -1,26 +1,22 @@
--- What is read off the tables: the two halves of a register ahead, and a byte that goes in by the byte that leaves at the top.
+-- What is read off the tables: the two halves of a register ahead, and what two words come to by their bytes.
 -- Assumes nothing.
-use mathlib.Core.Path.{_≡_, sym, ap, ap₂, _∙_}
+use mathlib.Core.Path.{_≡_, refl, sym, ap, ap₂, _∙_}
+use mathlib.Core.List.{List, [], _∷_}
 use Prim.Native.Nat.{ℕ, zero, suc, _+_, _*_, _/_, _%_, _^_, _<_}
-use native.Mathlib.Nat.{mod-lt, mod-eq-of-lt, mul-le-mul-left, zero-add, suc-add, mul-one, pow-suc}
-use native.Mathlib.Omega.{arith}
-use lib.Pow.{pow-pos, split, high, low}
-use lib.Bits.{bitXor, xor-comm, xor-zero-r, xor-mod, xor-shr, xor-lt, xor-shifted}
+use native.Mathlib.Nat.{zero-add, suc-add, mod-eq-of-lt}
+use native.Mathlib.Numerals.{add-one}
+use lib.ListN.{getD}
+use lib.Pow.{high, low}
+use lib.Bits.{bitXor, xor-comm, xor-zero-r, xor-mod}
 use Rattle.crc_steps.specs.Steps.{step, zeros, ahead}
-use Rattle.crc_steps.proofs.Steps.{step-up, zeros-lt, zeros-linear}
+use Rattle.crc_steps.proofs.Xor.{xor-assoc}
+use Rattle.crc_steps.proofs.Steps.{zeros-lt}
+use Rattle.crc_steps.proofs.Bytes.{four-bytes}
 
 pub zeros-add : (m n r : ℕ) → zeros (m + n) r ≡ zeros n (zeros m r)
 unfolding zeros
 zeros-add zero n r = ap (λ (k : ℕ). zeros k r) (zero-add n)
 zeros-add (suc m) n r = ap (λ (k : ℕ). zeros k r) (suc-add m n) ∙ zeros-add m n (step r 0)
-
--- a number that leaves the n top places free only moves up
-zeros-up : (n x : ℕ) → x * 2 ^ n < 2 ^ 32 → zeros n x ≡ x * 2 ^ n
-unfolding zeros
-zeros-up zero x h = sym (mul-one x)
-zeros-up (suc n) x h =
-    let e : x * 2 ^ suc n ≡ x * 2 * 2 ^ n = rw pow-suc (omega arith) in
-    ap (zeros n) (step-up x (omega (arith, mul-le-mul-left (x * 2) (pow-pos n)))) ∙ zeros-up n (x * 2) (omega arith) ∙ sym e
 
 -- the two halves
 pub ahead-high : (v x : ℕ) → x < 2 ^ 32 → v ≡ ahead x → v / 2 ^ 32 ≡ zeros 64 x
@@ -31,28 +27,40 @@ pub ahead-low : (v x : ℕ) → x < 2 ^ 32 → v ≡ ahead x → v % 2 ^ 32 ≡ 
 unfolding ahead
 ahead-low v x h e = ap (λ (y : ℕ). y % 2 ^ 32) e ∙ low (zeros 64 x) 32 (zeros-lt 32 x h)
 
--- a register with a byte put into its top places: that xor above the rest
-top-byte : (r b : ℕ) → bitXor r (b * 2 ^ 24) ≡ bitXor (r % 2 ^ 24) (bitXor (r / 2 ^ 24) b * 2 ^ 24)
-top-byte r b =
-    let y = bitXor r (b * 2 ^ 24) in
-    let back : b * 2 ^ 24 / 2 ^ 24 ≡ b = omega arith in
-    let gone : b * 2 ^ 24 % 2 ^ 24 ≡ 0 = omega arith in
-    let upper : y / 2 ^ 24 ≡ bitXor (r / 2 ^ 24) b = xor-shr r (b * 2 ^ 24) 24 ∙ ap (bitXor (r / 2 ^ 24)) back in
-    let lower : y % 2 ^ 24 ≡ r % 2 ^ 24 =
-    xor-mod r (b * 2 ^ 24) 24 ∙ ap (bitXor (r % 2 ^ 24)) gone ∙ xor-zero-r (r % 2 ^ 24) in
-    sym (split y 24) ∙ ap₂ (λ (u v : ℕ). u * 2 ^ 24 + v) upper lower
-    ∙ sym (xor-shifted (bitXor (r / 2 ^ 24) b) 24 (r % 2 ^ 24) (mod-lt r (pow-pos 24)))
-    ∙ xor-comm (bitXor (r / 2 ^ 24) b * 2 ^ 24) (r % 2 ^ 24)
+-- ---- a turn
 
--- the byte b into the register r, by the byte that leaves at the top
-pub byte-in : (r b : ℕ) → r < 2 ^ 32 → b < 256 → (x : ℕ) → x ≡ bitXor (r / 2 ^ 24) b
-    → bitXor (r * 2 ^ 8 % 2 ^ 32) (ahead (x % 256) % 2 ^ 32)
-    ≡ zeros 8 (bitXor r (b * 2 ^ 24))
-byte-in r b hr hb x e =
-    let x-lt : x < 256 = rw e (xor-lt 8 (r / 2 ^ 24) b (omega arith) hb) in
-    let up : r * 2 ^ 8 % 2 ^ 32 ≡ r % 2 ^ 24 * 2 ^ 8 = omega arith in
-    ap₂ bitXor (up ∙ sym (zeros-up 8 (r % 2 ^ 24) (omega arith)))
-    (ahead-low _ x (omega arith) (ap ahead (mod-eq-of-lt x-lt)) ∙ zeros-add 24 8 x
-    ∙ ap (zeros 8) (zeros-up 24 x (omega arith) ∙ ap (λ (y : ℕ). y * 2 ^ 24) e))
-    ∙ sym (zeros-linear 8 (r % 2 ^ 24) (bitXor (r / 2 ^ 24) b * 2 ^ 24) (omega arith) (rw (← e) (omega arith)))
-    ∙ ap (zeros 8) (sym (top-byte r b))
+-- what the first k words have come to: the one before goes on by 32 bits
+pub come : List ℕ → ℕ → ℕ
+come words zero = 0
+come words (suc k) = bitXor (come words k / 2 ^ 32) (ahead (getD words k 0))
+
+pub come-none : (words : List ℕ) → 0 ≡ come words 0
+unfolding come
+come-none words = refl
+
+-- one word more, by its four bytes
+pub come-more : (words : List ℕ) (k y p q r t : ℕ) → getD words k 0 < 2 ^ 32 → y ≡ come words k
+    → p ≡ ahead (getD words k 0 % 256)
+    → q ≡ ahead (getD words k 0 / 2 ^ 8 % 256 * 2 ^ 8)
+    → r ≡ ahead (getD words k 0 / 2 ^ 16 % 256 * 2 ^ 16)
+    → t ≡ ahead (getD words k 0 / 2 ^ 24 % 256 * 2 ^ 24)
+    → bitXor (bitXor (bitXor (bitXor (y / 2 ^ 32) p) q) r) t ≡ come words (k + 1)
+unfolding come
+come-more words k y p q r t l e ep eq er et =
+    let z = y / 2 ^ 32 in
+    ap (λ (v : ℕ). bitXor v t)
+    (ap (λ (v : ℕ). bitXor v r) (xor-assoc z p q) ∙ xor-assoc z (bitXor p q) r)
+    ∙ xor-assoc z (bitXor (bitXor p q) r) t
+    ∙ ap₂ (λ (v w : ℕ). bitXor (v / 2 ^ 32) w) e
+    (ap₂ bitXor (ap₂ bitXor (ap₂ bitXor ep eq) er) et ∙ sym (four-bytes (getD words k 0) l))
+    ∙ ap (come words) (sym (add-one k))
+
+-- both words
+pub come-two : (a b : ℕ) → a < 2 ^ 32 → b < 2 ^ 32 → come (a ∷ b ∷ []) 2 % 2 ^ 32 ≡ bitXor (zeros 64 a) (zeros 32 b)
+unfolding come
+come-two a b ha hb =
+    xor-mod (bitXor 0 (ahead a) / 2 ^ 32) (ahead b) 32
+    ∙ ap₂ bitXor
+    (ap (λ (v : ℕ). v % 2 ^ 32) (ahead-high (bitXor 0 (ahead a)) a ha (xor-comm 0 (ahead a) ∙ xor-zero-r (ahead a)))
+    ∙ mod-eq-of-lt (zeros-lt 64 a ha))
+    (ahead-low (ahead b) b hb refl)

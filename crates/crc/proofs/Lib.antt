@@ -1,5 +1,7 @@
 pub mod Register
 pub mod Ahead
 pub mod Turns
+pub mod Begun
+pub mod Gathered
 pub mod Residue
 pub mod Known

@@ -1,27 +1,19 @@
--- What a turn takes in: the register after one byte more, after four, and after eight.
+-- What a turn takes in: the register after four bytes more, and after eight.
 -- Assumes nothing.
 use mathlib.Core.Path.{_≡_, refl, sym, ap, _∙_}
 use mathlib.Core.List.{List}
 use Prim.Native.Nat.{ℕ, _+_, _*_, _^_, _<_}
 use native.Mathlib.Nat.{mul-one}
 use native.Mathlib.Omega.{arith}
-use lib.ListN.{getD}
 use lib.Bits.{bitXor, xor-lt}
 use Rattle.bits.specs.Bits.{bit, num}
 use Rattle.bits.proofs.Num.{num-lt}
-use Rattle.bits.proofs.Bytes.{AreBytes, bit-lt, byte-field}
+use Rattle.bits.proofs.Bytes.{bit-lt}
 use Rattle.crc_steps.specs.Steps.{zeros}
 use Rattle.crc_steps.proofs.Steps.{zeros-lt, zeros-linear}
 use Rattle.crc.specs.Crc.{register}
 use Rattle.crc.proofs.Register.{register-lt, register-more}
 use Rattle.crc.proofs.Ahead.{zeros-add}
-
-pub one-turn : (s : List ℕ) → AreBytes s → (i : ℕ)
-    → register (bit s) (8 * (i + 1)) ≡ zeros 8 (bitXor (register (bit s) (8 * i)) (getD s i 0 * 2 ^ 24))
-one-turn s h i =
-    let e : 8 * (i + 1) ≡ 8 * i + 8 = omega arith in
-    ap (register (bit s)) e ∙ register-more (bit s) (bit-lt s) (8 * i) 8 24 refl
-    ∙ ap (λ (x : ℕ). zeros 8 (bitXor (register (bit s) (8 * i)) (x * 2 ^ 24))) (byte-field s i (h i))
 
 pub four-turn : (s : List ℕ) (i : ℕ)
     → register (bit s) (8 * (i + 4)) ≡ zeros 32 (bitXor (register (bit s) (8 * i)) (num (bit s) (8 * i) 32))

@@ -20,7 +20,7 @@ choice x =
     (sym (xor-zero-r x)) refl refl (sym (xor-zero-r x))
 
 -- the step without a test
-step-xor : (r b : ℕ) → r < 2 ^ 32 → b < 2
+pub step-xor : (r b : ℕ) → r < 2 ^ 32 → b < 2
     → step r b ≡ bitXor (r * 2 % 2 ^ 32) (bitXor (r / 2 ^ 31) b * polynomial)
 unfolding step
 step-xor r b hr hb = choice (r * 2 % 2 ^ 32) (r / 2 ^ 31) b (omega arith) hb
