@@ -58,7 +58,13 @@ fn front(s: &[u8]) -> u64
     if s.len() < 8 {
         return few(s);
     }
-    ((((((byte(s, 0) * 256 + byte(s, 1)) * 256 + byte(s, 2)) * 256 + byte(s, 3)) * 256 + byte(s, 4)) * 256 + byte(s, 5)) * 256 + byte(s, 6)) * 256 + byte(s, 7)
+    ((((((byte(s, 0) * 256 + byte(s, 1)) * 256 + byte(s, 2)) * 256 + byte(s, 3)) * 256 + byte(s, 4))
+        * 256
+        + byte(s, 5))
+        * 256
+        + byte(s, 6))
+        * 256
+        + byte(s, 7)
 }
 
 // The same, byte by byte. From the last to the first: were the first read here too, the compiler would read it once for both,
@@ -84,7 +90,11 @@ fn turn(a: u32, b: u32) -> u32
     let mut y: u64 = 0;
     for k in 0..2 {
         let w = words[k];
-        y = (y >> 32) ^ crc_table_0::ahead(w) ^ crc_table_1::ahead(w) ^ crc_table_2::ahead(w) ^ crc_table_3::ahead(w);
+        y = (y >> 32)
+            ^ crc_table_0::ahead(w)
+            ^ crc_table_1::ahead(w)
+            ^ crc_table_2::ahead(w)
+            ^ crc_table_3::ahead(w);
     }
     low(y)
 }
