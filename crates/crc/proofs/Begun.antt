@@ -132,22 +132,19 @@ below-8 P p0 p1 p2 p3 p4 p5 p6 p7 (suc (suc (suc (suc (suc (suc zero)))))) h = p
 below-8 P p0 p1 p2 p3 p4 p5 p6 p7 (suc (suc (suc (suc (suc (suc (suc zero))))))) h = p7
 below-8 P p0 p1 p2 p3 p4 p5 p6 p7 (suc (suc (suc (suc (suc (suc (suc (suc m)))))))) h = absurd (omega arith)
 
--- the first m + 1 bytes, cut out of eight
-mask : (m : ℕ) → m < 8 → 0xFFFFFFFF00000000 / 2 ^ (56 - 8 * m) ≡ start (8 * (m + 1)) / 2 ^ 32
-mask =
+-- what goes in beside the first m + 1 of eight bytes, and those bytes
+pub beside : (m : ℕ) → m < 8 → 0xFFFFFFFF00000000 / 2 ^ (56 - 8 * m) ≡ start (8 * (m + 1)) / 2 ^ 32
+beside =
     below-8 (λ (m : ℕ). 0xFFFFFFFF00000000 / 2 ^ (56 - 8 * m) ≡ start (8 * (m + 1)) / 2 ^ 32)
     refl refl refl refl refl refl refl refl
 
-pub cut : (f : ℕ → ℕ) → Bits f → (m : ℕ) → m < 8
-    → bitXor (num f 0 64) 0xFFFFFFFF00000000 / 2 ^ (56 - 8 * m) ≡ bitXor (num f 0 (8 * (m + 1))) (start (8 * (m + 1)) / 2 ^ 32)
+pub cut : (f : ℕ → ℕ) → Bits f → (m : ℕ) → m < 8 → num f 0 64 / 2 ^ (56 - 8 * m) ≡ num f 0 (8 * (m + 1))
 cut f bits m h =
     let n = 8 * (m + 1) in
     let k = 56 - 8 * m in
     let whole : 64 ≡ n + k = omega arith in
-    let front : num f 0 64 / 2 ^ k ≡ num f 0 n =
     ap (λ (w : ℕ). num f 0 w / 2 ^ k) whole ∙ ap (λ (y : ℕ). y / 2 ^ k) (num-split f 0 n k)
-    ∙ high (num f 0 n) k (num-lt f bits (0 + n) k) in
-    xor-shr (num f 0 64) 0xFFFFFFFF00000000 k ∙ ap₂ bitXor front (mask m h)
+    ∙ high (num f 0 n) k (num-lt f bits (0 + n) k)
 
 -- what is left, where a move up by 64 places at once is none that there is
 pub left : (m : ℕ) → m < 8 → 0xFFFFFFFF * 2 ^ (8 * m) % 2 ^ 64 * 2 ^ 8 % 2 ^ 64 % 2 ^ 32 ≡ start (8 * (m + 1)) % 2 ^ 32

@@ -1,6 +1,6 @@
 pub mod Register
 pub mod Ahead
-pub mod Turns
+pub mod Words
 pub mod Begun
 pub mod Gathered
 pub mod Residue

@@ -18,7 +18,7 @@ use Rattle.crc_steps.specs.Steps.{zeros}
 use Rattle.crc_steps.proofs.Xor.{xor-zero}
 use Rattle.crc.specs.Crc.{register, crc32, be32}
 use Rattle.crc.proofs.Register.{zeros-zero, zeros-back, register-ext, register-lt}
-use Rattle.crc.proofs.Turns.{four-turn}
+use Rattle.crc.proofs.Words.{four-turn}
 
 pub crc32-lt : (s : List ℕ) → crc32 s < 2 ^ 32
 unfolding crc32

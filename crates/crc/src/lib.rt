@@ -1,8 +1,9 @@
 // CRC-32 as ISO/IEC 13818-1 has it, over lent bytes. Bits to come may be put into the register beforehand, by xor, and what the
-// register then comes to is read off tables. A turn takes in eight bytes. The bytes that make no eight go in first: zeros before
-// them fill up the eight, and a register of 0 stays 0 over zeros, so what it starts with goes in beside and after them.
+// register then comes to is read off tables. A turn takes in eight bytes. Bytes that make no eight are taken in the first turn and
+// not in the last, with zeros before them: a register of 0 stays 0 over zeros, and so what the register starts with is put in
+// beside these bytes, and what of it then is left after them.
 ghost use mathlib.Core.Path.{_≡_};
-ghost use Prim.Native.Nat.{_+_, _*_, _/_, _%_, _^_, _≤_, _<_};
+ghost use Prim.Native.Nat.{_+_, _-_, _*_, _/_, _%_, _^_, _≤_, _<_};
 ghost use lib.ListN.{length, getD};
 ghost use lib.Bits.{bitXor};
 ghost use Rattle.bits.specs.Bits.{bit, num};
@@ -10,14 +11,28 @@ ghost use Rattle.crc_steps.specs.Steps.{zeros};
 ghost use Rattle.crc.specs.Crc.{crc32};
 
 // The CRC of s. A section, its last four bytes included, has the CRC 0 exactly when those four are the CRC of the rest.
+// It calls `turns` at two places, so the compiler keeps that a function of its own, and puts the little that is left here in the
+// place of each call of `crc`.
 pub fn crc(s: &[u8]) -> u32
     ensures { λ r. ⌜ r ≡ crc32 (now (s .entry)) ⌝ }
 {
     if s.len() == 0 {
         return 0xFFFF_FFFF;
     }
+    if s.len() < 8 {
+        return turns(s, few(s));
+    }
+    turns(s, eight(s))
+}
+
+// The CRC of s, of which `front` has the first eight bytes, with zeros past the end. It lends s to no other function, so the compiler
+// has s handed over in registers and not in memory.
+fn turns(s: &[u8], front: u64) -> u32
+    requires { ⌜ (0 < length (now s)) × (front ≡ num (bit (now s)) 0 64) ⌝ }
+    ensures { λ r. ⌜ r ≡ crc32 (now (s .entry)) ⌝ }
+{
     let m = (s.len() - 1) % 8;
-    let x = first(s, m);
+    let x = first(front, m);
     let mut a = high(x);
     let mut b = low(x);
     let mut more = spill(m);
@@ -27,20 +42,20 @@ pub fn crc(s: &[u8]) -> u32
         if s.len() <= i {
             return r ^ more;
         }
-        // the word and what is left first: the turn then waits for one xor
-        a = r ^ (word(s, i) ^ more);
-        b = word(s, i + 4);
+        // the word with what is left, before r is known
+        a = r ^ (word(s[i], s[i + 1], s[i + 2], s[i + 3]) ^ more);
+        b = word(s[i + 4], s[i + 5], s[i + 6], s[i + 7]);
         more = 0;
         i += 8;
     }
 }
 
-// The first m + 1 bytes as a number, with what of the register at the start goes in beside them.
-fn first(s: &[u8], m: usize) -> u64
+// The first m + 1 of eight bytes, with what of the register at the start goes in beside them.
+fn first(front: u64, m: usize) -> u64
     requires { ⌜ m < 8 ⌝ }
-    ensures { λ r. ⌜ r ≡ bitXor (num (bit (now (s .entry))) 0 (8 * (m + 1))) (0xFFFFFFFF * 2 ^ (8 * (m + 1)) / 2 ^ 32) ⌝ }
+    ensures { λ r. ⌜ r ≡ bitXor (front / 2 ^ (56 - 8 * m)) (0xFFFFFFFF * 2 ^ (8 * (m + 1)) / 2 ^ 32) ⌝ }
 {
-    (front(s) ^ 0xFFFF_FFFF_0000_0000) >> (56 - 8 * m)
+    (front ^ 0xFFFF_FFFF_0000_0000) >> (56 - 8 * m)
 }
 
 // What of it goes in after them.
@@ -51,24 +66,17 @@ fn spill(m: usize) -> u32
     low((0xFFFF_FFFF << (8 * m)) << 8)
 }
 
-// The first eight bytes as a number; zeros past the end. One expression, of which the compiler makes one load.
-fn front(s: &[u8]) -> u64
+// The first eight bytes as a number, gathered in one and not in two halves: the compiler then makes one load of it.
+fn eight(s: &[u8]) -> u64
+    requires { ⌜ 8 ≤ length (now s) ⌝ }
     ensures { λ r. ⌜ r ≡ num (bit (now (s .entry))) 0 64 ⌝ }
 {
-    if s.len() < 8 {
-        return few(s);
-    }
-    ((((((byte(s, 0) * 256 + byte(s, 1)) * 256 + byte(s, 2)) * 256 + byte(s, 3)) * 256 + byte(s, 4))
-        * 256
-        + byte(s, 5))
-        * 256
-        + byte(s, 6))
-        * 256
-        + byte(s, 7)
+    let four = ((byte(s, 0) * 256 + byte(s, 1)) * 256 + byte(s, 2)) * 256 + byte(s, 3);
+    (((four * 256 + byte(s, 4)) * 256 + byte(s, 5)) * 256 + byte(s, 6)) * 256 + byte(s, 7)
 }
 
-// The same, byte by byte. From the last to the first: were the first read here too, the compiler would read it once for both,
-// and the other seven by themselves.
+// The same of fewer, with zeros past the end. From the last to the first: were the first read here before the others, the compiler
+// would read it once for this and for `eight`, and the other seven there by themselves.
 fn few(s: &[u8]) -> u64
     ensures { λ r. ⌜ r ≡ num (bit (now (s .entry))) 0 64 ⌝ }
 {
@@ -99,12 +107,11 @@ fn turn(a: u32, b: u32) -> u32
     low(y)
 }
 
-// The number that the four bytes from i on make, most significant first.
-fn word(s: &[u8], i: usize) -> u32
-    requires { ⌜ i + 4 ≤ length (now s) ⌝ }
-    ensures { λ r. ⌜ r ≡ num (bit (now (s .entry))) (8 * i) 32 ⌝ }
+// The number that four bytes make, most significant first.
+fn word(a: u8, b: u8, c: u8, d: u8) -> u32
+    ensures { λ r. ⌜ r ≡ ((a * 256 + b) * 256 + c) * 256 + d ⌝ }
 {
-    low(((byte(s, i) * 256 + byte(s, i + 1)) * 256 + byte(s, i + 2)) * 256 + byte(s, i + 3))
+    (((a as u32) * 256 + (b as u32)) * 256 + (c as u32)) * 256 + (d as u32)
 }
 
 // The byte at i.

@@ -6,15 +6,15 @@ use Prim.Native.Nat.{ℕ, zero, suc, _+_, _*_, _%_, _^_, _≤_}
 use native.Mathlib.Omega.{arith}
 use Rattle.crc_steps.specs.Steps.{ahead}
 
--- the arm with key m, where the byte is the lowest of x, and where it is one that goes in at place k
-pub lowest-arm : (m x : ℕ) → x % 256 + 256 ≡ m + 256 → ahead m ≡ ahead (x % 256)
-lowest-arm m x e =
-    let same : m ≡ x % 256 = omega (arith, e) in
+-- the arm of the byte m, where the byte n is the lowest, and where it goes in at place k
+pub lowest-arm : (m n : ℕ) → n + 256 ≡ m + 256 → ahead m ≡ ahead n
+lowest-arm m n e =
+    let same : m ≡ n = omega (arith, e) in
     ap ahead same
 
-pub arm : (k m x : ℕ) → x % 256 + 256 ≡ m + 256 → ahead (m * 2 ^ k) ≡ ahead (x % 256 * 2 ^ k)
-arm k m x e =
-    let same : m ≡ x % 256 = omega (arith, e) in
+pub arm : (k m n : ℕ) → n + 256 ≡ m + 256 → ahead (m * 2 ^ k) ≡ ahead (n * 2 ^ k)
+arm k m n e =
+    let same : m ≡ n = omega (arith, e) in
     ap (λ (y : ℕ). ahead (y * 2 ^ k)) same
 
 -- n is none of the first k numbers from 256 on

@@ -3,17 +3,23 @@
 use mathlib.Core.Path.{_≡_, refl, sym, ap, _∙_}
 use mathlib.Core.List.{List}
 use Prim.Native.Nat.{ℕ, _+_, _*_, _^_, _<_}
-use native.Mathlib.Nat.{mul-one}
+use native.Mathlib.Nat.{add-assoc, mul-one}
 use native.Mathlib.Omega.{arith}
+use lib.ListN.{getD}
 use lib.Bits.{bitXor, xor-lt}
 use Rattle.bits.specs.Bits.{bit, num}
 use Rattle.bits.proofs.Num.{num-lt}
-use Rattle.bits.proofs.Bytes.{bit-lt}
+use Rattle.bits.proofs.Bytes.{AreBytes, bit-lt, word, num-word}
 use Rattle.crc_steps.specs.Steps.{zeros}
 use Rattle.crc_steps.proofs.Steps.{zeros-lt, zeros-linear}
 use Rattle.crc.specs.Crc.{register}
 use Rattle.crc.proofs.Register.{register-lt, register-more}
 use Rattle.crc.proofs.Ahead.{zeros-add}
+
+-- the second word of eight bytes
+pub second-word : (s : List ℕ) → AreBytes s → (i : ℕ)
+    → num (bit s) (8 * (i + 4)) 32 ≡ word (getD s (i + 4) 0) (getD s (i + 5) 0) (getD s (i + 6) 0) (getD s (i + 7) 0)
+second-word s h i = rw (add-assoc i 4 1, add-assoc i 4 2, add-assoc i 4 3) at (num-word s h (i + 4))
 
 pub four-turn : (s : List ℕ) (i : ℕ)
     → register (bit s) (8 * (i + 4)) ≡ zeros 32 (bitXor (register (bit s) (8 * i)) (num (bit s) (8 * i) 32))

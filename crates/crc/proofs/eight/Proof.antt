@@ -1,15 +1,12 @@
--- `crc::front` meets its contract: eight bytes make the number that their bits make. Assumes nothing.
+-- `crc::eight` meets its contract: eight bytes make the number that their bits make. Assumes nothing.
 use mathlib.Core.Path.{sym, _∙_}
 use native.Mathlib.Omega.{arith}
 use Rattle.crc.proofs.Gathered.{next, num-eight}
-use Rattle.crc.proofs.front.Statement.{statement}
-use Rattle.crc.proofs.front.Tie as tie
+use Rattle.crc.proofs.eight.Statement.{statement}
+use Rattle.crc.proofs.eight.Tie as tie
 
 returns : tie.Need-returns
-returns c = c .few .ensures
-
-returns-2 : tie.Need-returns-2
-returns-2 at7 =
+returns at7 =
     let at6 = at7 .before in
     let at5 = at6 .before in
     let at4 = at5 .before in
@@ -17,7 +14,7 @@ returns-2 at7 =
     let at2 = at3 .before in
     let at1 = at2 .before in
     let at0 = at1 .before in
-    let start = at0 .before .before in
+    let start = at0 .before in
     next
     (next
     (next
@@ -29,12 +26,10 @@ returns-2 at7 =
     (at7 .byte8 .ensures .0)
     ∙ sym (num-eight (start .before .args .s .now) (λ k. start .shared-slice-known .given k .fits))
 
-pub front-spec : {M : Type 1} → statement M
-front-spec =
+pub eight-spec : {M : Type 1} → statement M
+eight-spec =
     tie.close
     (tie.spec
-    (λ c κs. tt)
-    returns
     (λ c κs. omega arith)
     (λ c. omega arith)
     (λ c κs. omega arith)
@@ -57,4 +52,4 @@ front-spec =
     (λ c. omega arith)
     (λ c κs. omega arith)
     (λ c. omega arith)
-    returns-2)
+    returns)
