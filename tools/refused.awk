@@ -90,7 +90,10 @@ function is_fact(message) {
 # The crates with a function that is a table, which has an arm for each number.
 BEGIN {
     tables["base64"]
-    tables["crc_tables"]
+    tables["crc_table_0"]
+    tables["crc_table_1"]
+    tables["crc_table_2"]
+    tables["crc_table_3"]
     tables["text_writing"]
 }
 

@@ -18,6 +18,9 @@ returns c =
 turns-requires : tie.Need-turns-requires
 turns-requires c κs = (omega arith, c .few .ensures)
 
+eight-requires : tie.Need-eight-requires
+eight-requires c κs = omega arith
+
 turns-requires-2 : tie.Need-turns-requires-2
 turns-requires-2 c κs = (omega arith, c .eight .ensures)
 
@@ -29,6 +32,6 @@ crc-spec =
     (λ c κs. tt)
     turns-requires
     (λ c. c .turns .ensures)
-    (λ c κs. omega arith)
+    eight-requires
     turns-requires-2
     (λ c. c .turns2 .ensures))
