@@ -19,11 +19,11 @@ zeros-add zero n r = ap (λ (k : ℕ). zeros k r) (zero-add n)
 zeros-add (suc m) n r = ap (λ (k : ℕ). zeros k r) (suc-add m n) ∙ zeros-add m n (step r 0)
 
 -- the two halves
-pub ahead-high : (v x : ℕ) → x < 2 ^ 32 → v ≡ ahead x → v / 2 ^ 32 ≡ zeros 64 x
+ahead-high : (v x : ℕ) → x < 2 ^ 32 → v ≡ ahead x → v / 2 ^ 32 ≡ zeros 64 x
 unfolding ahead
 ahead-high v x h e = ap (λ (y : ℕ). y / 2 ^ 32) e ∙ high (zeros 64 x) 32 (zeros-lt 32 x h)
 
-pub ahead-low : (v x : ℕ) → x < 2 ^ 32 → v ≡ ahead x → v % 2 ^ 32 ≡ zeros 32 x
+ahead-low : (v x : ℕ) → x < 2 ^ 32 → v ≡ ahead x → v % 2 ^ 32 ≡ zeros 32 x
 unfolding ahead
 ahead-low v x h e = ap (λ (y : ℕ). y % 2 ^ 32) e ∙ low (zeros 64 x) 32 (zeros-lt 32 x h)
 

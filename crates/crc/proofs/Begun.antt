@@ -5,14 +5,13 @@ use mathlib.Core.Path.{_≡_, refl, sym, ap, ap₂, _∙_}
 use Prim.Native.Nat.{ℕ, zero, suc, _+_, _-_, _*_, _/_, _%_, _^_, _≤_, _<_}
 use native.Mathlib.Nat.{zero-add, pow-suc, lt-of-lt-of-le, mul-add-mod-self-right}
 use native.Mathlib.Omega.{arith}
-use lib.Dec.{lit<}
-use lib.Pow.{pow-pos, pow-mono, high}
-use lib.Bits.{bitXor, xor-comm, xor-lt, xor-shr, xor-shifted, xor-block}
+use lib.Pow.{pow-mono, high}
+use lib.Bits.{bitXor, xor-comm, xor-lt, xor-shifted, xor-block}
 use Rattle.bits.specs.Bits.{num}
 use Rattle.bits.proofs.Num.{Bits, num-lt, num-zero, num-suc, num-split}
 use Rattle.crc_steps.specs.Steps.{step, zeros}
 use Rattle.crc_steps.proofs.Xor.{xor-assoc}
-use Rattle.crc_steps.proofs.Steps.{polynomial, step-xor, step-zero, step-bit, step-lt, step-linear, step-up, zeros-lt, zeros-linear}
+use Rattle.crc_steps.proofs.Steps.{polynomial, step-xor, step-zero, step-bit, step-linear, step-up, zeros-lt, zeros-linear}
 use Rattle.crc.specs.Crc.{register}
 use Rattle.crc.proofs.Ahead.{zeros-add}
 
@@ -31,7 +30,7 @@ last-bit zero h = refl
 last-bit (suc zero) h = refl
 last-bit (suc (suc t)) h = absurd (omega arith)
 
-pub both-lt : (x : ℕ) → x < 2 ^ 64 → both x < 2 ^ 32
+both-lt : (x : ℕ) → x < 2 ^ 64 → both x < 2 ^ 32
 both-lt x h =
     xor-lt 32 (zeros 64 (x / 2 ^ 32)) (zeros 32 (x % 2 ^ 32)) (zeros-lt 64 (x / 2 ^ 32) (omega arith))
     (zeros-lt 32 (x % 2 ^ 32) (omega arith))
@@ -146,7 +145,7 @@ cut f bits m h =
     ap (λ (w : ℕ). num f 0 w / 2 ^ k) whole ∙ ap (λ (y : ℕ). y / 2 ^ k) (num-split f 0 n k)
     ∙ high (num f 0 n) k (num-lt f bits (0 + n) k)
 
--- what is left, where a move up by 64 places at once is none that there is
+-- what is left, moved up in two goes
 pub left : (m : ℕ) → m < 8 → 0xFFFFFFFF * 2 ^ (8 * m) % 2 ^ 64 * 2 ^ 8 % 2 ^ 64 % 2 ^ 32 ≡ start (8 * (m + 1)) % 2 ^ 32
 left =
     below-8 (λ (m : ℕ). 0xFFFFFFFF * 2 ^ (8 * m) % 2 ^ 64 * 2 ^ 8 % 2 ^ 64 % 2 ^ 32 ≡ start (8 * (m + 1)) % 2 ^ 32)

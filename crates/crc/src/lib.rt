@@ -58,7 +58,7 @@ fn first(front: u64, m: usize) -> u64
     (front ^ 0xFFFF_FFFF_0000_0000) >> (56 - 8 * m)
 }
 
-// What of it goes in after them.
+// What of it goes in after them; in two shifts, since there is none by 64 places.
 fn spill(m: usize) -> u32
     requires { ⌜ m < 8 ⌝ }
     ensures { λ r. ⌜ r ≡ 0xFFFFFFFF * 2 ^ (8 * (m + 1)) % 2 ^ 32 ⌝ }
