@@ -24,7 +24,7 @@ use Rattle.section.specs.Accept.{acceptRows, the, grammarOf, breaks, com
 use Rattle.section.proofs.Rows.{whole, sealed-whole, size, last-rows, own-row}
 
 -- where no row of a table applies, its first does not, and none of the others does
-missed : (b : Bool) {m : ℕ} {rows : List (Bool × ℕ)} → Row ((b, m) ∷ rows) 0 → 0 < m → (b ≡ false) × Row rows 0
+pub missed : (b : Bool) {m : ℕ} {rows : List (Bool × ℕ)} → Row ((b, m) ∷ rows) 0 → 0 < m → (b ≡ false) × Row rows 0
 missed true r h = absurd (omega (arith, r .row))
 missed false r h = (refl, record { row = r .row })
 
@@ -82,7 +82,7 @@ no-row s e =
     }
 
 -- only row 0, none, is the verdict that accepts
-row-0 : (n : ℕ) → verdict n ≡ Accepted → n ≡ 0
+pub row-0 : (n : ℕ) → verdict n ≡ Accepted → n ≡ 0
 unfolding verdict
 row-0 zero e = refl
 row-0 (suc n) e = let z : _≡_ {A = ℕ} 0 1 = cc in absurd (omega arith)

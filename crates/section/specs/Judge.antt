@@ -4,13 +4,15 @@ use Prim.Native.Nat.{ℕ, _+_, _*_, _/_}
 use mathlib.Core.Bool.{Bool, cond}
 use mathlib.Core.List.{List}
 use lib.Dec.{eqb}
+use lib.ListN.{take}
+use Rattle.units.specs.Refusals.{first}
 use Rattle.bits.specs.Bits.{bit, num}
 use Rattle.grammar.specs.Meaning.{Outcome, breach, ends}
 use Rattle.commands.specs.Command.{commandEnd}
 use Rattle.descriptors.specs.declared.Cursor.{Cursor}
 use Rattle.section.specs.declared.Verdict.{Verdict}
 use Rattle.section.specs.declared.Judgement.{Judgement}
-use Rattle.section.specs.Accept.{the, acceptOf}
+use Rattle.section.specs.Accept.{the, acceptRows, verdict, acceptOf}
 
 -- the cursor with nothing to walk over
 abbrev pub nowhere : Cursor
@@ -36,8 +38,10 @@ judgeOf s = judgement (acceptOf s) (eqb (the s "encrypted_packet") 1) (loopFrom 
 
 -- ---- for private functions
 
--- the verdict in a judgement
-abbrev pub verdictIn : Judgement → Verdict
-verdictIn (Judgement.Open c) = Verdict.Accepted
-verdictIn Judgement.Sealed = Verdict.Accepted
-verdictIn (Judgement.Refused r) = Verdict.Refused r
+-- the first of rows 1 to 7 that applies, 0 where none does
+unfoldable pub headerRow : List ℕ → ℕ
+headerRow s = first (take 7 (acceptRows s))
+
+-- the verdict by these rows alone
+unfoldable pub headerOf : List ℕ → Verdict
+headerOf s = verdict (headerRow s)

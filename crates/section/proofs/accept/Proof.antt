@@ -4,8 +4,7 @@ use mathlib.Core.Path.{_≡_, sym, ap, _∙_}
 use Rattle.section.specs.declared.Verdict.{Verdict}
 use Rattle.section.specs.declared.Judgement.{Judgement}
 use Rattle.section.specs.Accept.{acceptOf}
-use Rattle.section.specs.Judge.{verdictIn}
-use Rattle.section.proofs.Judged.{same-verdict}
+use Rattle.section.proofs.Judged.{verdictIn, same-verdict}
 use borrow.Author.Needs.{needs}
 use Rattle.section.proofs.accept.Statement.{statement}
 use Rattle.section.proofs.accept.Tie as tie

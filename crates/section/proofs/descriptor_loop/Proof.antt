@@ -8,7 +8,6 @@ use lib.ListN.{length}
 use Rattle.bits.specs.Bits.{bit, num}
 use Rattle.bits.proofs.Within.{field-there}
 use Rattle.grammar.specs.Meaning.{ends, breach}
-use Rattle.section.specs.declared.Judgement.{Judgement}
 use Rattle.grammar.specs.Tables.{descriptor-loop}
 use Rattle.grammar.proofs.Run.{pass, short, ruled, framed-all, framed-off, frame-short, filled-last, swept-bytes, finished, at-place}
 use borrow.Author.Needs.{needs}
@@ -39,7 +38,7 @@ sub-if1 c = search needs
 
 returns : tie.Need-returns
 unfolding descriptor-loop
-returns c = (λ env. ruled (short (omega arith)) refl, omega arith, refl)
+returns c = (λ env. ruled (short (omega arith)) refl, omega arith)
 
 pair-requires : tie.Need-pair-requires
 pair-requires c κs = search needs
@@ -54,22 +53,19 @@ returns-2 : tie.Need-returns-2
 unfolding descriptor-loop
 returns-2 c =
     let t = c .before in
-    (λ env. ruled (pass (omega arith) (frame-short (omega (arith, given-length t)))) refl, omega arith, refl)
-
-add-loop-end : tie.Need-add-loop-end
-add-loop-end c = search needs
-
-add-loop-end-2 : tie.Need-add-loop-end-2
-add-loop-end-2 c = search needs
+    (λ env. ruled (pass (omega arith) (frame-short (omega (arith, given-length t)))) refl, omega arith)
 
 add-fills : tie.Need-add-fills
 add-fills c = search needs
 
+add-fills-2 : tie.Need-add-fills-2
+add-fills-2 c = search needs
+
+add-fills-3 : tie.Need-add-fills-3
+add-fills-3 c = search needs
+
 fills-requires : tie.Need-fills-requires
 fills-requires c κs = search needs
-
-add-t14 : tie.Need-add-t14
-add-t14 c = search needs
 
 returns-3 : tie.Need-returns-3
 unfolding descriptor-loop
@@ -87,7 +83,6 @@ returns-3 c =
           (finished refl)))
           (filled-last (swept-bytes "alignment_stuffing" env (bit s) (8 * (length s - 4)) (length s - 4 - e) (8 * e) stuffing) .runs),
       tt,
-      ap (λ (w : ℕ). Judgement.Open (record { at = a .at + 2; end = a .at + 2 + w })) (sym (given-length t)),
     )
 
 returns-4 : tie.Need-returns-4
@@ -104,7 +99,6 @@ returns-4 c =
           (ruled (at-place (after-length t) (filled-last (c .before .fills .ensures _ ∙ ap (λ (b : Bool). cond b (ends (8 * e)) (breach 0)) (c .if3 .left)))) refl)))
           refl,
       omega arith,
-      refl,
     )
 
 pub descriptor-loop-spec : {M : Type 1} → statement M
@@ -118,10 +112,9 @@ descriptor-loop-spec =
     sub-if2
     sub-if2-2
     returns-2
-    add-loop-end
-    add-loop-end-2
     add-fills
+    add-fills-2
+    add-fills-3
     fills-requires
-    add-t14
     returns-3
     returns-4)
