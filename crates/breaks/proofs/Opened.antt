@@ -50,9 +50,6 @@ module _ (s : List ℕ) (c : Cursor) (o : IsOpen s c) where
   pub allowed : Allowed s
   allowed = accepted s (o .allowed)
 
-
-
-
   laid : Laid s (firstCursor s) (has-trace s (o .allowed) .0) (has-trace s (o .allowed) .1)
   laid = let t = has-trace s (o .allowed) in first-trace s (o .allowed) (o .clear) (t .0) (t .1) (t .2)
 

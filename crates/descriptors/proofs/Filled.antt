@@ -61,9 +61,10 @@ module _ (s : List ℕ) (hs : AreBytes s) (c : Cursor) where
           let same = by-length kind next step in
           record {
             steps = q ∙ λ i. Descriptor (step .kind-is i) (same i);
-            filled =
-                (h .0,
-                sym (swept-on g (8 * c .end) (8 * c .at) (8 * following s c .at) (omega arith)
-                (step .runs-to [] ∙ ap (λ (x : Cursor). ends (8 * x .at)) same) (omega arith)) ∙ h .1);
+            filled = (
+              h .0,
+              sym (swept-on g (8 * c .end) (8 * c .at) (8 * following s c .at) (omega arith)
+                  (step .runs-to [] ∙ ap (λ (x : Cursor). ends (8 * x .at)) same) (omega arith)) ∙ h .1,
+            );
             inside = omega (arith, step .inside, ap (λ (x : Cursor). x .at) same);
           }

@@ -28,7 +28,8 @@ use Rattle.opening.specs.First.{firstCursor}
 use Rattle.section.proofs.Accepted.{accepted}
 use Rattle.grammar.proofs.Octets.{command-octets}
 use Rattle.grammar.proofs.Readings.{Reads, Parts, rows-parts, arm-parts, frame-parts, under-parts, under-last}
-use Rattle.opening.proofs.Start.{command-run, after-command}
+use Rattle.section.proofs.Judged.{command-run}
+use Rattle.opening.proofs.Start.{after-command}
 
 -- what is read before the first descriptor, of a command that ends at byte n: header, splice_command_type, command and descriptor_loop_length
 abbrev pub front : List ℕ → ℕ → Trace → Trace
@@ -101,8 +102,7 @@ module _ (s : List ℕ) where
       let fits : 8 * n + 16 + 8 * num (bit s) (8 * n) 16 ≤ 8 * (length s - 4) = part .2 in
       let env : Env = bind (field 16 "descriptor_loop_length" ∷ []) (bit s) (8 * n) (known s) in
       let here : read (fill splice-descriptor done) env (bit s) (8 * loop n .end) (8 * loop n .at) ≡ reached i (rows .0) =
-      ap₂ (λ (e k : ℕ). read (fill splice-descriptor done) env (bit s) e k) (sym to) (sym from) ∙ body .reads in
-      (
+      ap₂ (λ (e k : ℕ). read (fill splice-descriptor done) env (bit s) e k) (sym to) (sym from) ∙ body .reads in (
         part .1 ∙ to,
         rows .2 ∙ ap (λ (v : Trace). values (field 16 "descriptor_loop_length" ∷ []) (bit s) (8 * n) ++ v) (loop-trace s (loop n) env i (rows .0) (omega arith) here),
         (omega arith, filled-by (loop n) env i (rows .0) here ∙ ap ends (part .1 ∙ to)),

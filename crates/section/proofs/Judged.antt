@@ -1,7 +1,7 @@
 -- The judgement of a section by its parts: rows 1 to 7, the command and the loop after it; and a judgement's verdict.
 -- Assumes nothing.
 use mathlib.Core.Path.{_≡_, refl, sym, ap, _∙_}
-use mathlib.Core.Bool.{Bool, true, false, not, cond, _||_}
+use mathlib.Core.Bool.{Bool, true, false, not, cond}
 use mathlib.Core.List.{List, [], _∷_}
 use Prim.Native.Nat.{ℕ, zero, suc, _+_, _-_, _*_, _/_, _≤_}
 use native.Mathlib.Omega.{arith}
@@ -11,7 +11,7 @@ use borrow.Author.Tests.{ltb-false, le-ltb, eqb-true, not-false}
 use Rattle.bits.specs.Bits.{bit, num}
 use Rattle.bits.proofs.Cases.{neither}
 use Rattle.units.specs.declared.refusals.Refusal.{Refusal}
-use Rattle.units.specs.Refusals.{first, named}
+use Rattle.units.specs.Refusals.{first}
 use Rattle.units.proofs.Rows.{Row, miss}
 use Rattle.grammar.specs.Syntax.{under}
 use Rattle.grammar.specs.Meaning.{Env, bind, run, Outcome, breach, ends}
@@ -85,13 +85,13 @@ loop-after s n e =
 
 module _ (s : List ℕ) (long : 20 ≤ length s) where
   -- where the command ends, by the grammar
-  commanded : run sized-command (known s) (bit s) (8 * (length s - 4)) (8 * 14) ≡ commandEnd s
+  pub command-run : commandEnd s ≡ run sized-command (known s) (bit s) (8 * (length s - 4)) (8 * 14)
   unfolding commandEnd
-  commanded = sym (ap (λ (b : Bool). cond b (breach 0) (run sized-command (known s) (bit s) (8 * (length s - 4)) (8 * 14))) (le-ltb (length s) 20 long))
+  command-run = ap (λ (b : Bool). cond b (breach 0) (run sized-command (known s) (bit s) (8 * (length s - 4)) (8 * 14))) (le-ltb (length s) 20 long)
 
   -- before the CRC
   pub command-inside : (n : ℕ) → commandEnd s ≡ ends (8 * n) → n + 4 ≤ length s
-  command-inside n e = omega (arith, byte-within sized-command (known s) (bit s) (length s - 4) 14 n (commanded ∙ e) (omega arith))
+  command-inside n e = omega (arith, byte-within sized-command (known s) (bit s) (length s - 4) 14 n (sym command-run ∙ e) (omega arith))
 
   -- the rest of the section comes to what its command comes to, or the loop after it
   abbrev Rest : Outcome → Type 0
@@ -99,12 +99,12 @@ module _ (s : List ℕ) (long : 20 ≤ length s) where
 
   pub broken-command : commandEnd s ≡ breach 0 → Rest (breach 8)
   unfolding payload known
-  broken-command e = pass (omega arith) (ruled (record { runs = commanded ∙ e }) refl)
+  broken-command e = pass (omega arith) (ruled (record { runs = sym command-run ∙ e }) refl)
 
   pub whole-command : {o : Outcome} (n : ℕ) → commandEnd s ≡ ends (8 * n)
       → ((env : Env) → Runs (under 9 descriptor-loop (bytes "alignment_stuffing")) env (bit s) (8 * (length s - 4)) (8 * n) o) → Rest o
   unfolding payload known
-  whole-command n e rest = pass (omega arith) (ruled (record { runs = commanded ∙ e }) (rest _ .runs))
+  whole-command n e rest = pass (omega arith) (ruled (record { runs = sym command-run ∙ e }) (rest _ .runs))
 
 -- ---- the verdict in a judgement
 

@@ -1,7 +1,6 @@
 -- `section::accept` meets its contract: the verdict is the one in the judgement.
 -- Assumes nothing.
 use mathlib.Core.Path.{_≡_, sym, ap, _∙_}
-use Rattle.section.specs.declared.Verdict.{Verdict}
 use Rattle.section.specs.declared.Judgement.{Judgement}
 use Rattle.section.specs.Accept.{acceptOf}
 use Rattle.section.proofs.Judged.{verdictIn, same-verdict}

@@ -1,6 +1,6 @@
 -- `breaks::dash::open_dash` meets its contract, by splice_command_type.
 -- Assumes nothing.
-use mathlib.Core.Path.{_≡_, sym, ap, _∙_}
+use mathlib.Core.Path.{sym, ap, _∙_}
 use native.Mathlib.Omega.{arith}
 use borrow.Author.Needs.{needs}
 use Rattle.command_reading.specs.declared.answers.Command.{Command}

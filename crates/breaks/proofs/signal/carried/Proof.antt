@@ -1,12 +1,10 @@
 -- `breaks::signal::carried` meets its contract.
 -- Assumes nothing.
-use mathlib.Core.Path.{_≡_, sym, ap, _∙_}
+use mathlib.Core.Path.{sym, ap, _∙_}
 use Prim.Native.Nat.{ℕ, _*_}
 use native.Mathlib.Omega.{arith}
-use Rattle.bits.specs.Bits.{fieldOf}
 use Rattle.bits.proofs.Fields.{field-lt}
 use Rattle.units.specs.Clock.{eventId}
-use Rattle.segmentation_reading.specs.declared.answers.Duration.{Duration}
 use Rattle.breaks.specs.declared.signal.Measure.{Measure}
 use Rattle.breaks.specs.Signals.{measureOf}
 use borrow.Author.Needs.{needs}

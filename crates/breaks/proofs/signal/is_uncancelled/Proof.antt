@@ -1,6 +1,6 @@
 -- `breaks::signal::is_uncancelled` meets its contract.
 -- Assumes nothing.
-use mathlib.Core.Path.{_≡_, sym, ap, ap₂, _∙_}
+use mathlib.Core.Path.{sym, ap, ap₂, _∙_}
 use mathlib.Core.Bool.{Bool, not, _&&_}
 use Prim.Native.Nat.{_+_, _*_}
 use Rattle.bits.specs.Bits.{flagOf}
