@@ -1,2 +1,3 @@
+pub mod LastFirst
 pub mod Letters
 pub mod WriteRows

@@ -1,9 +1,10 @@
 // From bytes to text: the pass that writes the characters, four of three bytes.
 ghost use mathlib.Core.Path.{_≡_};
-ghost use Prim.Native.Nat.{_*_, _≤_, _<_};
+ghost use Prim.Native.Nat.{_+_, _*_, _≤_, _<_};
 ghost use mathlib.Core.Bool.{cond};
 ghost use lib.Dec.{ltb};
 ghost use lib.ListN.{length, getD};
+ghost use lib.Seq.{sets};
 ghost use Rattle.bits.specs.Bits.{run};
 ghost use Rattle.units.specs.Answers.{memory};
 ghost use Rattle.base64.specs.Base64.{character, characterAt, textLength, encoded};
@@ -126,17 +127,11 @@ fn padded(c: u8, bytes: usize) -> u8
     if 1 < bytes { c } else { b'=' }
 }
 
-// The text of the section, written to the front of out; a last group of one or two bytes is padded.
-pub(crate) fn put(section: &[u8], out: &mut [u8])
-    requires { ⌜ textLength (now section) ≤ length (now out) ⌝ }
-    ensures { λ _. ⌜ now (out .exit) ≡ memory 0 (encoded (now (section .entry))) (now (out .entry)) ⌝ }
+// The four characters of a last group of one or two bytes, written after the places of the whole groups.
+fn put_last(section: &[u8], out: &mut [u8], whole: usize, left: usize)
+    requires { ⌜ (length (now section) ≡ 3 * whole + left) × (0 < left) × (left < 3) × (4 * whole + 4 ≤ length (now out)) ⌝ }
+    ensures { λ _. ⌜ now (out .exit) ≡ sets (now (out .entry)) (4 * whole) (run (characterAt (now (section .entry))) (4 * whole) 4) ⌝ }
 {
-    let whole = section.len() / 3;
-    put_groups(section, out, whole);
-    let left = section.len() - 3 * whole;
-    if left == 0 {
-        return;
-    }
     let a = there(section, 3 * whole);
     let b = byte(section, 3 * whole + 1);
     let first = character(a / 4);
@@ -146,4 +141,16 @@ pub(crate) fn put(section: &[u8], out: &mut [u8])
     out[4 * whole + 1] = second;
     out[4 * whole + 2] = padded(third, left);
     out[4 * whole + 3] = b'=';
+}
+
+// The text of the section, of so many whole groups and bytes left over, written to the front of out. The last group goes first:
+// its characters are then looked up while the loop runs, and not after it.
+pub(crate) fn put(section: &[u8], out: &mut [u8], whole: usize, left: usize)
+    requires { ⌜ (length (now section) ≡ 3 * whole + left) × (left < 3) × (textLength (now section) ≤ length (now out)) ⌝ }
+    ensures { λ _. ⌜ now (out .exit) ≡ memory 0 (encoded (now (section .entry))) (now (out .entry)) ⌝ }
+{
+    if 0 < left {
+        put_last(section, out, whole, left);
+    }
+    put_groups(section, out, whole);
 }

@@ -15,10 +15,15 @@ pub fn to_text(section: &[u8], out: &mut [u8]) -> Written
     if MOST_SECTION < n {
         return Written::Refused(Refusal::Size);
     }
-    let count = (n + 2) / 3 * 4;
+    let whole = n / 3;
+    let left = n - 3 * whole;
+    let mut count = 4 * whole;
+    if 0 < left {
+        count = count + 4;
+    }
     if out.len() < count {
         return Written::Refused(Refusal::Room);
     }
-    encode::put(section, out);
+    encode::put(section, out, whole, left);
     Written::Count(count)
 }
