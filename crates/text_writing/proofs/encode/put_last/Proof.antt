@@ -14,6 +14,18 @@ use Rattle.text_writing.proofs.Letters.{first-letter, second-letter, la
 use Rattle.text_writing.proofs.encode.put_last.Statement.{statement}
 use Rattle.text_writing.proofs.encode.put_last.Tie as tie
 
+slice-write-out : tie.Need-slice-write-out
+slice-write-out c = omega arith
+
+slice-write-out-2 : tie.Need-slice-write-out-2
+slice-write-out-2 c = simp length-set (omega arith)
+
+slice-write-out-3 : tie.Need-slice-write-out-3
+slice-write-out-3 c = simp length-set (omega arith)
+
+slice-write-out-4 : tie.Need-slice-write-out-4
+slice-write-out-4 c = simp length-set (omega arith)
+
 returns : tie.Need-returns
 returns c =
     let d3 = c .before in
@@ -47,16 +59,16 @@ put-last-spec =
     (λ c. omega arith)
     (λ c κs. omega arith)
     (λ c. omega arith)
+    slice-write-out
     (λ c. omega arith)
     (λ c. omega arith)
-    (λ c. omega arith)
-    (λ c. simp length-set (omega arith))
+    slice-write-out-2
     (λ c κs. search needs)
     (λ c. omega arith)
     (λ c. omega arith)
-    (λ c. simp length-set (omega arith))
+    slice-write-out-3
     (λ c. omega arith)
     (λ c. omega arith)
-    (λ c. simp length-set (omega arith))
+    slice-write-out-4
     (λ c. search needs)
     returns)
