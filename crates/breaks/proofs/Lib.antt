@@ -1,4 +1,4 @@
-pub mod Openers
+pub mod OtherKinds
 pub mod Left
 pub mod Longest
 pub mod Standing

@@ -7,7 +7,7 @@ use mathlib.Core.List.{List, _∷_}
 use Prim.Native.Nat.{ℕ, _+_, _*_, _≤_}
 use native.Mathlib.Omega.{arith}
 use lib.ListN.{length}
-use borrow.Author.Tests.{not-true}
+use borrow.Author.Tests.{not-true, not-false}
 use Rattle.bits.specs.Bits.{fieldOf, flagOf}
 use Rattle.units.specs.Clock.{eventId}
 use Rattle.descriptors.specs.declared.Cursor.{Cursor}
@@ -63,11 +63,7 @@ module _ (s : List ℕ) (at : ℕ) where
   idle Kind.Time e h = rw e (refl, refl)
   idle Kind.Audio e h = rw e (refl, refl)
   idle Kind.Unknown e h = rw e (refl, refl)
-  idle Kind.Segmentation e h = subst Idle (sym (segmentation-there e ∙ by-cancel true (set (flagOf s (8 * (at + 10))) h))) (refl, refl)
-    where
-      set : (b : Bool) → not b ≡ false → b ≡ true
-      set true q = refl
-      set false q = let z : _≡_ {A = ℕ} 0 1 = cc in absurd (omega arith)
+  idle Kind.Segmentation e h = subst Idle (sym (segmentation-there e ∙ by-cancel true (not-false _ h))) (refl, refl)
 
 -- ---- in the loop
 

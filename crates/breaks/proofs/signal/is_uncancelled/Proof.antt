@@ -5,7 +5,7 @@ use mathlib.Core.Bool.{Bool, not, _&&_}
 use Prim.Native.Nat.{_+_, _*_}
 use Rattle.bits.specs.Bits.{flagOf}
 use Rattle.breaks.specs.Signals.{isSegmentation}
-use Rattle.breaks.proofs.Openers.{no-segmentation}
+use Rattle.breaks.proofs.OtherKinds.{no-segmentation}
 use borrow.Author.Needs.{needs}
 use Rattle.breaks.proofs.signal.is_uncancelled.Statement.{statement}
 use Rattle.breaks.proofs.signal.is_uncancelled.Tie as tie

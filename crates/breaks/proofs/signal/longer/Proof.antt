@@ -1,4 +1,4 @@
--- `signals::longer` meets its contract.
+-- `breaks::signal::longer` meets its contract.
 -- Assumes nothing.
 use mathlib.Core.Path.{sym, ap, ap₂, _∙_}
 use mathlib.Core.Bool.{Bool, cond}

@@ -1,4 +1,4 @@
--- `signals::opens_break` meets its contract: the arm's keys are the list's numbers.
+-- `breaks::signal::opens_break` meets its contract: the arm's keys are the list's numbers.
 -- Assumes nothing.
 use mathlib.Core.Path.{refl, sym}
 use Prim.Native.Nat.{ℕ}

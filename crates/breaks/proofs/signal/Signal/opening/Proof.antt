@@ -1,4 +1,4 @@
--- `signals::Signal::opening` meets its contract.
+-- `breaks::signal::Signal::opening` meets its contract.
 -- Assumes nothing.
 use mathlib.Core.Path.{sym, ap}
 use borrow.Author.Needs.{needs}
