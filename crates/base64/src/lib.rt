@@ -1,4 +1,6 @@
 // Base64 (RFC 4648 section 4): definitions and laws, which `text` and `text_writing` cite, and the table of the characters.
+#![tactic(auto)]
+
 ghost use Rattle.std.specs.Prelude.{◌≡◌};
 ghost use Rattle.base64.specs.Base64.{six};
 

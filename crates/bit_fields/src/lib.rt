@@ -1,4 +1,6 @@
 // Fields of 1 to 48 bits at any bit position of a byte slice, read. Place 0 is the most significant bit of the first byte.
+#![tactic(auto)]
+
 ghost use Rattle.std.specs.Prelude.{◌≡◌, ◌+◌, ◌*◌, ◌^◌, ◌≤◌, ◌<◌, length, get_or};
 ghost use Rattle.bit_fields.specs.Bits.{bit, num, within, field_of};
 

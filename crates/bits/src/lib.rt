@@ -1,4 +1,6 @@
 // Fields at any bit position of a byte slice, read and written: those of one bit and of whole bytes, and the others passed on.
+#![tactic(auto)]
+
 ghost use Rattle.std.specs.Prelude.{◌≡◌, ◌+◌, ◌*◌, ◌<◌};
 ghost use Rattle.bit_fields.specs.Bits.{field_of, flag_of};
 

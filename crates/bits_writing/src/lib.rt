@@ -1,4 +1,6 @@
 // Fields of 1 to 48 bits at any bit position of a byte slice, written.
+#![tactic(auto)]
+
 ghost use Rattle.std.specs.Prelude.{◌≡◌, ◌+◌, ◌-◌, ◌*◌, ◌/◌, ◌%◌, ◌^◌, ◌≤◌, ◌<◌, true, length};
 ghost use Rattle.bit_fields.specs.Bits.{bit, num, patched, writable, written_of};
 ghost use Rattle.bits_writing.specs.Scattered.{Scattered};

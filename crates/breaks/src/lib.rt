@@ -1,4 +1,6 @@
 // The break of a section: whether it opens one, and how long that lasts. And the duration of its DASH event.
+#![tactic(auto)]
+
 mod dash;
 mod signal;
 

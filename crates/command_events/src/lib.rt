@@ -1,5 +1,7 @@
 // The events of a section's schedule and their components, by number from 0. The functions take any bytes: where these
 // have no command that follows its table and its length, there is no event.
+#![tactic(auto)]
+
 mod parts;
 
 ghost use Rattle.std.specs.Prelude.{◌≡◌};

@@ -1,5 +1,7 @@
 // The lists of a section's command, by number from 0: the components of an insert, and the bytes of a private command.
 // The functions take any bytes: where these have no command that follows its table and its length, its lists have nothing.
+#![tactic(auto)]
+
 mod parts;
 
 ghost use Rattle.std.specs.Prelude.{◌≡◌};

@@ -1,4 +1,6 @@
 // The parts that several answers on commands share, as numbers: a time, and the avails.
+#![tactic(auto)]
+
 ghost use Rattle.std.specs.Prelude.{◌≡◌, ◌∷◌};
 ghost use Rattle.wire.specs.Given.{these, given, given_into};
 ghost use Rattle.wire.specs.Put.{put_place, put_into};

@@ -1,5 +1,7 @@
 // The typed questions on the command of a section. Every question takes any bytes, and is refused by rows 1 to 10, then by
 // SEALED, then by NOTHERE, where there is no such part.
+#![tactic(auto)]
+
 ghost use Rattle.std.specs.Prelude.{◌≡◌};
 ghost use Rattle.command_questions.specs.Questions as says;
 

@@ -1,5 +1,7 @@
 // What the command of a section says. The functions take any bytes: where these have no command that follows its table
 // and its length, it is refused.
+#![tactic(auto)]
+
 mod answers;
 mod parts;
 

@@ -1,4 +1,6 @@
 // Where a splice command ends: a function for each table of the standard, over the bytes from `at` up to `end`.
+#![tactic(auto)]
+
 ghost use Rattle.std.specs.Prelude.{◌≡◌, ℕ, ◌*◌, ◌≤◌, cond, length};
 ghost use Rattle.bits.specs.Bits.{bit};
 ghost use Rattle.grammar.specs.Meaning.{Env, value_of, run};

@@ -2,6 +2,8 @@
 // register then comes to is read off tables. A turn takes in eight bytes. Bytes that make no eight are taken in the first turn and
 // not in the last, with zeros before them: a register of 0 stays 0 over zeros, and so what the register starts with is put in
 // beside these bytes, and what of it then is left after them.
+#![tactic(auto)]
+
 ghost use Rattle.std.specs.Prelude.{◌≡◌, ◌+◌, ◌-◌, ◌*◌, ◌/◌, ◌%◌, ◌^◌, ◌≤◌, ◌<◌, length, get_or};
 ghost use Rattle.std.specs.Int.Bits.{bit_xor};
 ghost use Rattle.bits.specs.Bits.{bit, num};

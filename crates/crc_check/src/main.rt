@@ -1,5 +1,7 @@
 // Writes the CRC of a few inputs, in hex, one to a line. Between them they take every way: no byte, fewer than eight, eight in one
 // turn, and more turns, the first of one byte, of three and of seven.
+#![tactic(auto)]
+
 fn main() {
     // The check value that lists of CRCs give, 0376e6e7.
     show(b"123456789");

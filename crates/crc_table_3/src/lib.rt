@@ -1,6 +1,8 @@
 // Made by tools/crc_tables. Byte 3 of a CRC register, ahead: after 64 more bits of 0 in the upper half, and after 32 in the lower.
 // It is a match and no array, which would be copied to the stack at each use. The arms are 256 more than the byte, since the
 // compiler takes a byte alone for a signed number and would add 128 to it at each look-up.
+#![tactic(auto)]
+
 ghost use Rattle.std.specs.Prelude.{◌≡◌, ◌*◌, ◌/◌, ◌%◌, ◌^◌};
 ghost use Rattle.crc_steps.specs.Steps.{ahead};
 

@@ -1,5 +1,7 @@
 // The lists of the known descriptors of a loop, by number: the characters and components of known descriptor n, all
 // numbered from 0.
+#![tactic(auto)]
+
 mod parts;
 
 ghost use Rattle.std.specs.Prelude.{◌≡◌};

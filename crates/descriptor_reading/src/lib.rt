@@ -1,5 +1,7 @@
 // What the known descriptors of a loop say, which the walk from a cursor finds. They are numbered from 0, and unknown ones
 // are not counted.
+#![tactic(auto)]
+
 mod answers;
 mod parts;
 

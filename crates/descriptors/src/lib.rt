@@ -1,5 +1,7 @@
 // The walk over the descriptor loop of a section: a cursor by value, and a function for each table of the standard but the
 // segmentation descriptor's, over the bytes from `at` up to `end`.
+#![tactic(auto)]
+
 ghost use Rattle.std.specs.Prelude.{◌≡◌, ℕ, ◌+◌, ◌*◌, ◌≤◌, length};
 ghost use Rattle.bits.specs.Bits.{bit, num};
 ghost use Rattle.grammar.specs.Meaning.{Env};

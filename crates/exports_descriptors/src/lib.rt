@@ -1,4 +1,6 @@
 // What known descriptors say, for programs in other languages, as lists of numbers. A slice passes as a pointer and then a length.
 // The answer is the count of numbers written, or 2^63 plus the refusal's number.
+#![tactic(auto)]
+
 mod known;
 mod parts;

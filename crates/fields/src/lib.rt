@@ -1,5 +1,7 @@
 // The fields of a section, one after another, as their widths in lent memory. What a field holds is taken from the section's
 // bits or, where there is a sheet, from the sheet's numbers.
+#![tactic(auto)]
+
 ghost use Rattle.std.specs.Prelude.{◌≡◌};
 ghost use Rattle.fields.specs.Fields;
 ghost use Rattle.fields.specs.Fields.{source, plan, laid, times_on, bytes_to, roomy, kept, Room};

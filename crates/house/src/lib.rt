@@ -1,5 +1,7 @@
 // The house's answers on a section: the break, the effective time, the bill label and the two DVB-DASH answers. Every
 // function takes any bytes. Each subject has a crate of its own, and this is the one door to them all.
+#![tactic(auto)]
+
 pub use breaks::{Break, DashDuration, break_answer, dash_duration};
 pub use labels::{Label, bill_label, label};
 pub use times::{Dvb, EffectiveTime, dvb, effective_time};

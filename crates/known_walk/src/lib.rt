@@ -1,5 +1,7 @@
 // The known descriptors of a loop, which the walk from a cursor finds: how many there are and where they stand. They are
 // numbered from 0, and unknown ones are not counted.
+#![tactic(auto)]
+
 mod walk;
 
 ghost use Rattle.std.specs.Prelude.{◌≡◌};

@@ -1,5 +1,7 @@
 // Writes, for a few sections, the bill label under a house name and the UPID bytes of known descriptors 0 and 1, in hex. The
 // house's names are the letters A to E, 41 to 45.
+#![tactic(auto)]
+
 use descriptor_reading::Upid;
 
 fn main() {

@@ -1,4 +1,6 @@
 // The bill label of a section: the first UPID that has bytes, or the house's name.
+#![tactic(auto)]
+
 mod answers;
 
 ghost use Rattle.std.specs.Prelude.{◌≡◌};

@@ -1,5 +1,7 @@
 // Which fields a section has, one after another: their widths, in lent memory. What a field holds is taken from the section's
 // bits or, where there is a sheet, from the sheet's numbers, so one walk serves both directions. Nothing is refused here.
+#![tactic(auto)]
+
 ghost use Rattle.std.specs.Prelude.{◌≡◌, ℕ, List};
 ghost use Rattle.grammar.specs.Meaning.{Env, value_of};
 ghost use Rattle.fields.specs.Fields.{source, plan, Room, Lays};

@@ -1,5 +1,7 @@
 // The fields of the command of a section: a function for each table of the standard, which puts the fields' widths into lent
 // memory. One walk serves both directions: what a field holds comes from the section's bits or from a sheet's numbers.
+#![tactic(auto)]
+
 ghost use Rattle.std.specs.Prelude.{◌≡◌, ℕ, true, cond};
 ghost use Rattle.grammar.specs.Syntax.{stop};
 ghost use Rattle.grammar.specs.Meaning.{Env, value_of};

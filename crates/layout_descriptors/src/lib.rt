@@ -1,5 +1,7 @@
 // The fields of a section's descriptors: a function for each table of the standard, which puts the fields' widths into lent
 // memory. One walk serves both directions: what a field holds comes from the section's bits or from a sheet's numbers.
+#![tactic(auto)]
+
 ghost use Rattle.std.specs.Prelude.{◌≡◌, ℕ, ◌-◌};
 ghost use Rattle.grammar.specs.Meaning.{Env, value_of};
 ghost use Rattle.grammar.specs.Tables.{bytes, dtmf_descriptor, delivery, segmentation_components, segmentation_end, segmentation_descriptor, audio_descriptor, known_descriptor, splice_descriptor, descriptor_loop};

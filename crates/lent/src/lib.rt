@@ -1,4 +1,6 @@
 // Bytes put into lent memory.
+#![tactic(auto)]
+
 ghost use Rattle.std.specs.Prelude.{◌≡◌};
 ghost use Rattle.units.specs.Put.{fits, put_into};
 

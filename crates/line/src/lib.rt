@@ -1,4 +1,6 @@
 // The answer line of a text: what the tally says of one cue.
+#![tactic(auto)]
+
 ghost use Rattle.std.specs.Prelude.{◌≡◌, length};
 ghost use Rattle.text.specs.Text.{read_into};
 ghost use Rattle.line.specs.Line.{answer_in, in_millis, refused_text};

@@ -1,5 +1,7 @@
 // A stream of lines, each a text, and the answer line of each: in turns over whatever input is at hand. What is held of a
 // line that was cut, the carry buffer and the output are the caller's, so memory stays the same however long the stream is.
+#![tactic(auto)]
+
 mod answers;
 mod carry;
 

@@ -1,4 +1,6 @@
 // Opens an accepted section for a question on what is inside: rows 1 to 10 of paper 01's table, then SEALED.
+#![tactic(auto)]
+
 ghost use Rattle.std.specs.Prelude.{◌≡◌};
 ghost use Rattle.opening.specs.First.{first_cursor, open_of};
 

@@ -1,5 +1,7 @@
 // The typed questions on a section. Every question takes any bytes, and is refused by rows 1 to 10, then by SEALED, then by
 // NOTHERE, where there is no such part. Those on its command and on the lists of known descriptors are passed on.
+#![tactic(auto)]
+
 ghost use Rattle.std.specs.Prelude.{◌≡◌};
 ghost use Rattle.reading.specs.Reading as says;
 

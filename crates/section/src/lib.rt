@@ -1,4 +1,6 @@
 // Whether lent bytes are an SCTE 35 section: the rows 1 to 10 of paper 01's table, in their order.
+#![tactic(auto)]
+
 ghost use Rattle.std.specs.Prelude.{◌≡◌, ◌+◌, ◌-◌, ◌*◌, ◌≤◌, cond, length};
 ghost use Rattle.bits.specs.Bits.{bit};
 ghost use Rattle.grammar.specs.Syntax.{under};

@@ -1,4 +1,6 @@
 // The segmentation descriptor (Table 20): where it ends, and which types may carry sub-segments.
+#![tactic(auto)]
+
 ghost use Rattle.std.specs.Prelude.{◌≡◌, ◌*◌, ◌≤◌, length};
 ghost use Rattle.bits.specs.Bits.{bit};
 ghost use Rattle.grammar.specs.Meaning.{Env, value_of, is_among};

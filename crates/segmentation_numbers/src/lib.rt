@@ -1,4 +1,6 @@
 // What an uncancelled segmentation descriptor says, as numbers.
+#![tactic(auto)]
+
 mod lists;
 
 ghost use Rattle.std.specs.Prelude.{◌≡◌};

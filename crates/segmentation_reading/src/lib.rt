@@ -1,5 +1,7 @@
 // What a segmentation descriptor says (Table 20), by the byte after its identifier. Its place is a u16, and so no sum of
 // places is too large.
+#![tactic(auto)]
+
 mod answers;
 
 ghost use Rattle.std.specs.Prelude.{◌≡◌, ◌≤◌};

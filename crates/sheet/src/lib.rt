@@ -1,4 +1,6 @@
 // The field sheet of a section, every field as one number in order, and the section of a field sheet.
+#![tactic(auto)]
+
 ghost use Rattle.std.specs.Prelude.{◌≡◌, ◌≤◌, length, take, replicate};
 ghost use Rattle.bits.specs.Bits.{write_all};
 ghost use Rattle.sheet.specs.Sheet.{fields_between, filled, summed, room_for, Judged, to_section, to_section_into};

@@ -1,4 +1,6 @@
 // Whether bytes are a section and have a given field sheet: the count first, then the numbers before and after section_length.
+#![tactic(auto)]
+
 ghost use Rattle.std.specs.Prelude.{◌≡◌, ◌-◌, ◌*◌, ◌≤◌, length, take, drop};
 ghost use Rattle.section.specs.declared.Verdict.TheVariants.{Accepted};
 ghost use Rattle.section.specs.Accept.{accept_of};

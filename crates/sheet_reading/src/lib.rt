@@ -1,4 +1,6 @@
 // The field sheet of a section: every field as one number, in order.
+#![tactic(auto)]
+
 ghost use Rattle.std.specs.Prelude.{◌≡◌, ◌-◌, ◌*◌, ◌≤◌, length, take, drop};
 ghost use Rattle.std.proofs.lemmas.List.Edits.{sets};
 ghost use Rattle.section.specs.declared.Verdict.TheVariants.{Accepted};

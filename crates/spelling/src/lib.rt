@@ -1,4 +1,6 @@
 // An answer line: what the tally says of one cue, and its characters.
+#![tactic(auto)]
+
 mod characters;
 
 ghost use Rattle.std.specs.Prelude.{◌≡◌};

@@ -1,5 +1,7 @@
 // The tally: one text per line from standard input, one answer line each to standard output. Everything that matters is in
 // `lines`; this is the loop that reads and writes.
+#![tactic(auto)]
+
 ghost use Rattle.std.specs.Prelude.{◌≤◌, ◌≡◌, length};
 ghost use Rattle.lines.specs.Turns.{turn_answer, turn_carry, last_out};
 ghost use Rattle.tally.specs.Loop.{Answers, Wrote, Stepped, Took, Ended, Came};

@@ -1,4 +1,6 @@
 // From base64 text (RFC 4648 section 4) to the bytes of a section; the way back is passed on.
+#![tactic(auto)]
+
 mod decode;
 
 ghost use Rattle.std.specs.Prelude.{◌≡◌};

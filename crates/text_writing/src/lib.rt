@@ -1,4 +1,6 @@
 // From the bytes of a section to base64 text (RFC 4648 section 4).
+#![tactic(auto)]
+
 mod encode;
 
 ghost use Rattle.std.specs.Prelude.{◌≡◌};

@@ -1,4 +1,6 @@
 // The effective time of a section, and the first DVB-DASH check.
+#![tactic(auto)]
+
 mod answers;
 
 ghost use Rattle.std.specs.Prelude.{◌≡◌};

@@ -1,5 +1,7 @@
 // The kinds of number that must not stand in for one another, the refusals by name, the answer of a function that writes
 // into lent memory, and the most that there can be.
+#![tactic(auto)]
+
 mod clock;
 mod refusals;
 mod sizes;

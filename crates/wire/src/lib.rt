@@ -1,4 +1,6 @@
 // What crosses to programs in other languages: an answer as one number, and numbers into lent memory.
+#![tactic(auto)]
+
 ghost use Rattle.std.specs.Prelude.{◌≡◌, [], ◌∷◌};
 ghost use Rattle.wire.specs.Wire.{wire, flag_number};
 ghost use Rattle.wire.specs.Given.{these, given, given_into};
