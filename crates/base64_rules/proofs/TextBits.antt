@@ -10,7 +10,7 @@ use Rattle.bits.specs.Bits.{bit, num, byte_of}
 use Rattle.bits.proofs.Num.{Bits, num_part_at}
 use Rattle.bits.proofs.Digits.{digit_end, digit_whole, digit_more}
 use Rattle.bits.proofs.Bytes.{bit_lt, byte_whole, byte_more}
-use Rattle.base64.specs.Base64.{character, sextet, text_bit, character_at}
+use Rattle.base64_rules.specs.Base64.{character, sextet, text_bit, character_at}
 
 module _ (t : List ℕ) where
   pub text_bit_bits : Bits (text_bit t)

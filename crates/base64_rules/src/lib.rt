@@ -2,7 +2,7 @@
 #![tactic(auto)]
 
 ghost use Rattle.std.specs.Prelude.{◌≡◌};
-ghost use Rattle.base64.specs.Base64.{six};
+ghost use Rattle.base64_rules.specs.Base64.{six};
 
 // Stands for a character outside the alphabet: more than the bits of four characters make.
 pub const OUTSIDE: u64 = 0x100_0000;

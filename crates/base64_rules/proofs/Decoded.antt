@@ -9,9 +9,9 @@ use lib.ListN.{length}
 use Rattle.bits.specs.Bits.{bit}
 use Rattle.bits.proofs.Digits.{zero_each}
 use Rattle.bits.proofs.Bytes.{bit_past, length_bytes_of, bit_bytes_of}
-use Rattle.base64.specs.Base64.{before, text_bit, count, decoded, spare}
-use Rattle.base64.proofs.Counts.{all_bits}
-use Rattle.base64.proofs.TextBits.{text_bit_bits}
+use Rattle.base64_rules.specs.Base64.{before, text_bit, count, decoded, spare}
+use Rattle.base64_rules.proofs.Counts.{all_bits}
+use Rattle.base64_rules.proofs.TextBits.{text_bit_bits}
 
 module _ (t : List ℕ) where
   pub length_decoded : length (decoded t) ≡ count t

@@ -9,7 +9,7 @@ use lib.Dec.{ltb}
 use lib.ListN.{length, get_or, take}
 use borrow.Author.Tests.{lt-ltb, ltb-true}
 use Rattle.bits.proofs.Cases.{is_false, and_left, and_right}
-use Rattle.base64.specs.Base64.{sextet, all_of}
+use Rattle.base64_rules.specs.Base64.{sextet, all_of}
 
 pub all_each : (t : List ℕ) (n : ℕ) → n ≤ length t → ((i : ℕ) → i < n → sextet (get_or t i 0) < 64)
     → all_of (take n t) ≡ true

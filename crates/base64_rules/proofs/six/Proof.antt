@@ -1,11 +1,11 @@
--- `base64::six` meets its contract: each arm has the number that the definition computes to at its byte. Assumes nothing.
+-- `base64_rules::six` meets its contract: each arm has the number that the definition computes to at its byte. Assumes nothing.
 use mathlib.Core.Path.{◌≡◌, ap}
 use Prim.Native.Nat.{ℕ, ◌+◌}
 use native.Mathlib.Omega.{arith}
-use Rattle.base64.specs.Base64.{sextet, six}
-use Rattle.base64.proofs.Arms.{past}
-use Rattle.base64.proofs.six.Statement.{statement}
-use Rattle.base64.proofs.six.Tie as tie
+use Rattle.base64_rules.specs.Base64.{sextet, six}
+use Rattle.base64_rules.proofs.Arms.{past}
+use Rattle.base64_rules.proofs.six.Statement.{statement}
+use Rattle.base64_rules.proofs.six.Tie as tie
 
 arm : (k c : ℕ) → c + 256 ≡ k + 256 → six k ≡ six c
 arm k c e =

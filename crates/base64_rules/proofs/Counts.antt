@@ -5,8 +5,8 @@ use mathlib.Core.List.{List}
 use Prim.Native.Nat.{ℕ, ◌+◌, ◌-◌, ◌*◌, ◌/◌, ◌%◌, ◌<◌, ◌≤◌}
 use native.Mathlib.Omega.{arith}
 use lib.ListN.{length}
-use Rattle.base64.specs.Base64.{padding, before, count}
-use Rattle.base64.proofs.Padding.{padding_le, padding_fits}
+use Rattle.base64_rules.specs.Base64.{padding, before, count}
+use Rattle.base64_rules.proofs.Padding.{padding_le, padding_fits}
 
 module _ (t : List ℕ) (whole : length t % 4 ≡ 0) where
   -- each character of padding takes a byte from the three of a group

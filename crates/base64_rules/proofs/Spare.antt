@@ -9,10 +9,10 @@ use lib.ListN.{length, get_or, get_or-eq_default}
 use Rattle.bits.specs.Bits.{num, byte_of, bytes_of}
 use Rattle.bits.proofs.Bytes.{length_bytes_of, get_d_run}
 use Rattle.bits.proofs.Num.{num_zero}
-use Rattle.base64.specs.Base64.{sextet, padding, before, text_bit, count, spare}
-use Rattle.base64.proofs.Counts.{count_is}
-use Rattle.base64.proofs.Padding.{padding_cases, padding_fits}
-use Rattle.base64.proofs.TextBits.{sextet_end, text_group, byte_cut}
+use Rattle.base64_rules.specs.Base64.{sextet, padding, before, text_bit, count, spare}
+use Rattle.base64_rules.proofs.Counts.{count_is}
+use Rattle.base64_rules.proofs.Padding.{padding_cases, padding_fits}
+use Rattle.base64_rules.proofs.TextBits.{sextet_end, text_group, byte_cut}
 
 -- four characters make three bytes, so only the rest by four tells how many bits are over
 pub over : (n : ℕ) → 6 * n % 8 ≡ 6 * (n % 4) % 8

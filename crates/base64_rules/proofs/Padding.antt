@@ -9,7 +9,7 @@ use native.Mathlib.Decide.{ℕ_discrete}
 use native.Mathlib.Omega.{arith}
 use lib.ListN.{length, get_or, get_or-eq_default}
 use borrow.Author.Tests.{eq-eqb, ne_eqb}
-use Rattle.base64.specs.Base64.{padding, before}
+use Rattle.base64_rules.specs.Base64.{padding, before}
 
 module _ (t : List ℕ) where
   pub padding_none : (get_or t (length t - 1) 0 ≡ 61 → ⊥) → padding t ≡ 0

@@ -11,11 +11,11 @@ use Rattle.bits.specs.Bits.{bit, num}
 use Rattle.bits.proofs.Num.{num_lt}
 use Rattle.bits.proofs.Digits.{bit_of}
 use Rattle.bits.proofs.Bytes.{bit_lt, length_run, get_d_run}
-use Rattle.base64.specs.Base64.{sextet, padding, before, text_bit, count, text_length, character_at, encoded}
-use Rattle.base64.proofs.Alphabet.{sextet_character, outside}
-use Rattle.base64.proofs.Counts.{count_is, inside}
-use Rattle.base64.proofs.Padding.{padding_none, padding_one, padding_two, padding_empty}
-use Rattle.base64.proofs.TextBits.{character_at_in, character_at_past}
+use Rattle.base64_rules.specs.Base64.{sextet, padding, before, text_bit, count, text_length, character_at, encoded}
+use Rattle.base64_rules.proofs.Alphabet.{sextet_character, outside}
+use Rattle.base64_rules.proofs.Counts.{count_is, inside}
+use Rattle.base64_rules.proofs.Padding.{padding_none, padding_one, padding_two, padding_empty}
+use Rattle.base64_rules.proofs.TextBits.{character_at_in, character_at_past}
 
 module _ (s : List ℕ) where
   pub length_encoded : length (encoded s) ≡ text_length s

@@ -8,7 +8,7 @@ use native.Mathlib.Decide.{dec_lt}
 use lib.Dec.{leb, eqb}
 use borrow.Author.Tests.{lt-ltb, le-ltb, le-leb, lt-leb, ne_eqb, leb-true, eqb-true}
 use Rattle.bits.proofs.Cases.{is_false, and_left, and_right, all_below}
-use Rattle.base64.specs.Base64.{character, sextet}
+use Rattle.base64_rules.specs.Base64.{character, sextet}
 
 -- ---- from a character
 
