@@ -11,7 +11,7 @@ use opening::Opened;
 use units::{Refusal, Ticks};
 
 // The longest duration of a time signal's descriptors, or that there is none.
-#[derive(Drop)]
+#[derive(Clone, Copy)]
 pub enum DashDuration {
     None,
     Measured(Ticks),

@@ -19,7 +19,7 @@ pub use signal::{Measure, Signal};
 use units::{Refusal, Ticks};
 
 // Whether a cue opens a break, and how long it lasts.
-#[derive(Drop)]
+#[derive(Clone, Copy)]
 pub enum Break {
     None,
     Measured(Ticks),

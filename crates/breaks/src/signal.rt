@@ -14,14 +14,14 @@ use segmentation_reading::Duration;
 use units::{EventId, Ticks};
 
 // A duration, and the event whose descriptor carries it.
-#[derive(Drop)]
+#[derive(Clone, Copy)]
 pub enum Measure {
     Absent,
     Present(EventId, Ticks),
 }
 
 // What a time signal says by its descriptors.
-#[derive(Drop)]
+#[derive(Clone, Copy)]
 pub struct Signal {
     pub opened: bool,
     // The longest of those that open a break; of two as long the first.

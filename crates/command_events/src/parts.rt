@@ -7,7 +7,7 @@ use grammar::Ended;
 use units::{EventId, Refusal};
 
 // The bytes of an event of a schedule.
-#[derive(Drop)]
+#[derive(Clone, Copy)]
 pub(crate) enum Span {
     // From one byte up to another.
     Of(usize, usize),

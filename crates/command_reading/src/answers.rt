@@ -2,7 +2,7 @@
 use units::{EventId, Refusal, Ticks};
 
 // When a splice takes place (Table 14).
-#[derive(Drop)]
+#[derive(Clone, Copy)]
 pub enum SpliceTime {
     // At once: the command has no time.
     Immediate,
@@ -12,21 +12,21 @@ pub enum SpliceTime {
 }
 
 // Whether the whole program is spliced, or so many components are.
-#[derive(Drop)]
+#[derive(Clone, Copy)]
 pub enum Mode {
     Program,
     Components(u8),
 }
 
 // How long the break lasts (Table 15).
-#[derive(Drop)]
+#[derive(Clone, Copy)]
 pub enum BreakDuration {
     Absent,
     Present { auto_return: bool, duration: Ticks },
 }
 
 // The end of an event (Tables 9 and 10).
-#[derive(Drop)]
+#[derive(Clone, Copy)]
 pub struct Avails {
     pub break_duration: BreakDuration,
     pub unique_program_id: u16,
@@ -35,7 +35,7 @@ pub struct Avails {
 }
 
 // A splice insert that is not cancelled (Table 10).
-#[derive(Drop)]
+#[derive(Clone, Copy)]
 pub struct Insert {
     pub splice_event_id: EventId,
     pub out_of_network_indicator: bool,
@@ -45,7 +45,7 @@ pub struct Insert {
 }
 
 // A command (Table 7).
-#[derive(Drop)]
+#[derive(Clone, Copy)]
 pub enum Command {
     Null,
     // With its splice_count.
@@ -62,14 +62,14 @@ pub enum Command {
 }
 
 // A component of a splice insert.
-#[derive(Drop)]
+#[derive(Clone, Copy)]
 pub enum InsertComponent {
     Component { component_tag: u8, time: SpliceTime },
     Refused(Refusal),
 }
 
 // When an event of a schedule takes place (Table 9).
-#[derive(Drop)]
+#[derive(Clone, Copy)]
 pub enum EventTime {
     // With its utc_splice_time.
     Program(u32),
@@ -78,7 +78,7 @@ pub enum EventTime {
 }
 
 // An event of a schedule that is not cancelled (Table 9).
-#[derive(Drop)]
+#[derive(Clone, Copy)]
 pub struct ScheduledEvent {
     pub splice_event_id: EventId,
     pub out_of_network_indicator: bool,
@@ -87,7 +87,7 @@ pub struct ScheduledEvent {
 }
 
 // An event of a schedule.
-#[derive(Drop)]
+#[derive(Clone, Copy)]
 pub enum Event {
     Scheduled(ScheduledEvent),
     Cancelled(EventId),
@@ -95,7 +95,7 @@ pub enum Event {
 }
 
 // A component of a schedule's event.
-#[derive(Drop)]
+#[derive(Clone, Copy)]
 pub enum EventComponent {
     Component {
         component_tag: u8,
@@ -105,7 +105,7 @@ pub enum EventComponent {
 }
 
 // A byte of a private command, after its identifier.
-#[derive(Drop)]
+#[derive(Clone, Copy)]
 pub enum PrivateByte {
     Byte(u8),
     Refused(Refusal),

@@ -3,14 +3,14 @@ use segmentation_reading::Segmentation;
 use units::{EventId, Refusal, Ticks};
 
 // How many known descriptors there are.
-#[derive(Drop)]
+#[derive(Clone, Copy)]
 pub enum KnownCount {
     Count(usize),
     Refused(Refusal),
 }
 
 // A known descriptor (Table 16).
-#[derive(Drop)]
+#[derive(Clone, Copy)]
 pub enum Descriptor {
     // With its provider_avail_id.
     Avail(u32),
@@ -31,14 +31,14 @@ pub enum Descriptor {
 }
 
 // A character of a DTMF descriptor.
-#[derive(Drop)]
+#[derive(Clone, Copy)]
 pub enum DtmfChar {
     Char(u8),
     Refused(Refusal),
 }
 
 // A component of a segmentation descriptor.
-#[derive(Drop)]
+#[derive(Clone, Copy)]
 pub enum SegmentationComponent {
     Component {
         component_tag: u8,
@@ -48,7 +48,7 @@ pub enum SegmentationComponent {
 }
 
 // A component of an audio descriptor (Table 28).
-#[derive(Drop)]
+#[derive(Clone, Copy)]
 pub enum AudioComponent {
     Component {
         component_tag: u8,
@@ -61,7 +61,7 @@ pub enum AudioComponent {
 }
 
 // Where the UPID bytes of a segmentation descriptor lie.
-#[derive(Drop)]
+#[derive(Clone, Copy)]
 pub enum Upid {
     // From a byte of the section on, so many.
     Part(usize, usize),

@@ -17,14 +17,14 @@ pub use segmentation::is_sub_segmented;
 const CUEI: u64 = 0x43554549;
 
 // The bytes of the loop that are still to be walked over: from `at` up to `end`.
-#[derive(Drop)]
+#[derive(Clone, Copy)]
 pub struct Cursor {
     pub at: usize,
     pub end: usize,
 }
 
 // Which table a descriptor follows.
-#[derive(Drop)]
+#[derive(Clone, Copy)]
 pub enum Kind {
     Avail,
     Dtmf,
@@ -35,7 +35,7 @@ pub enum Kind {
 }
 
 // What stands at a cursor.
-#[derive(Drop)]
+#[derive(Clone, Copy)]
 pub enum Step {
     // A descriptor, and the cursor after it.
     Descriptor(Kind, Cursor),

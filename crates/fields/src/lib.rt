@@ -9,7 +9,7 @@ ghost use Rattle.fields.specs.Fields.{source, plan, laid, times_on, bytes_to, ro
 use units::MOST_FIELDS;
 
 // The bit after the fields so far, and how many fields there are.
-#[derive(Drop)]
+#[derive(Clone, Copy)]
 pub struct Place {
     pub at: usize,
     pub number: usize,

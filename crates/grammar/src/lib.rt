@@ -3,7 +3,7 @@
 #![tactic(auto)]
 
 // Where what a table describes ends, as a byte of the section; or a rule of the table is broken.
-#[derive(Drop)]
+#[derive(Clone, Copy)]
 pub enum Ended {
     At(usize),
     Broken,

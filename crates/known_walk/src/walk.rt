@@ -8,7 +8,7 @@ use descriptors::{Cursor, Step};
 use units::MOST_SECTION;
 
 // Where a descriptor stands.
-#[derive(Drop)]
+#[derive(Clone, Copy)]
 pub enum Place {
     At(usize),
     Nowhere,

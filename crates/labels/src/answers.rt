@@ -1,5 +1,5 @@
 // What a break is billed under.
-#[derive(Drop)]
+#[derive(Clone, Copy)]
 pub enum Label {
     // The section's bytes from one on, so many.
     Upid(usize, usize),

@@ -2,7 +2,7 @@
 use units::Refusal;
 
 // What is held of a line that was cut.
-#[derive(Drop)]
+#[derive(Clone, Copy)]
 pub enum Held {
     // So many characters at the front of the carry buffer.
     Characters(usize),
@@ -11,7 +11,7 @@ pub enum Held {
 }
 
 // What a turn did.
-#[derive(Drop)]
+#[derive(Clone, Copy)]
 pub enum Turn {
     // What is held now, how much of the input was taken, and how much of the output was written.
     Moved {

@@ -9,7 +9,7 @@ use section::Judgement;
 use units::Refusal;
 
 // Open, with the cursor of its first descriptor, or why not.
-#[derive(Drop)]
+#[derive(Clone, Copy)]
 pub enum Opened {
     Open(Cursor),
     Refused(Refusal),

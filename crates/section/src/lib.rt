@@ -15,14 +15,14 @@ use grammar::Ended;
 use units::Refusal;
 
 // Accepted, or the first row that refuses.
-#[derive(Drop)]
+#[derive(Clone, Copy)]
 pub enum Verdict {
     Accepted,
     Refused(Refusal),
 }
 
 // The same with what acceptance came upon: a section that is not sealed is open at the cursor of its first descriptor.
-#[derive(Drop)]
+#[derive(Clone, Copy)]
 pub enum Judgement {
     Open(Cursor),
     Sealed,

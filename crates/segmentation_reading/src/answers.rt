@@ -2,14 +2,14 @@
 use units::{EventId, Ticks};
 
 // Whether the whole program is segmented, or so many components are.
-#[derive(Drop)]
+#[derive(Clone, Copy)]
 pub enum Mode {
     Program,
     Components(u8),
 }
 
 // Where a segment may be delivered.
-#[derive(Drop)]
+#[derive(Clone, Copy)]
 pub enum Delivery {
     NotRestricted,
     Restricted {
@@ -21,14 +21,14 @@ pub enum Delivery {
 }
 
 // How long a segment lasts.
-#[derive(Drop)]
+#[derive(Clone, Copy)]
 pub enum Duration {
     Absent,
     Present(Ticks),
 }
 
 // Which sub-segment this is, of how many.
-#[derive(Drop)]
+#[derive(Clone, Copy)]
 pub enum SubSegments {
     Absent,
     Present {
@@ -38,7 +38,7 @@ pub enum SubSegments {
 }
 
 // A segmentation descriptor that is not cancelled (Table 20).
-#[derive(Drop)]
+#[derive(Clone, Copy)]
 pub struct Segmentation {
     pub segmentation_event_id: EventId,
     pub mode: Mode,

@@ -9,7 +9,7 @@ ghost use Rattle.spelling.specs.Spelling.{spell_answer, spell_into};
 use units::{Millis, Refusal, Written};
 
 // What a line says of its text.
-#[derive(Drop)]
+#[derive(Clone, Copy)]
 pub enum Line {
     // `A m`: a break that lasts so long.
     Measured(Millis),

@@ -11,14 +11,14 @@ use lines::{Held, Turn};
 use units::{MOST_TEXT, Written};
 
 // What came of a write: so many bytes were written, all that there were; or it failed, and that was said.
-#[derive(Drop)]
+#[derive(Clone, Copy)]
 enum Said {
     All(usize),
     Failed,
 }
 
 // What came of a turn and the write of its answers: as `Turn`, or the write failed.
-#[derive(Drop)]
+#[derive(Clone, Copy)]
 enum Step {
     Moved {
         held: Held,
@@ -30,7 +30,7 @@ enum Step {
 
 // How it goes on: with what is held of a line that was cut. Or not at all: the input is at its end, and so many bytes were
 // written of its last line; or reading or writing failed.
-#[derive(Drop)]
+#[derive(Clone, Copy)]
 enum Next {
     Holding(Held),
     Ended(usize),

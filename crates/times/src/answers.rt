@@ -2,7 +2,7 @@
 use units::{Refusal, Ticks};
 
 // When a splice takes place on the stream's own clock.
-#[derive(Drop)]
+#[derive(Clone, Copy)]
 pub enum EffectiveTime {
     None,
     At(Ticks),
@@ -10,7 +10,7 @@ pub enum EffectiveTime {
 }
 
 // The first DVB-DASH check.
-#[derive(Drop)]
+#[derive(Clone, Copy)]
 pub enum Dvb {
     No,
     Yes,

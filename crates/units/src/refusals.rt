@@ -3,7 +3,7 @@ ghost use Rattle.std.specs.Prelude.{◌≡◌};
 ghost use Rattle.units.specs.Refusals.{number_of};
 
 // Why a call was refused, in the order of the table.
-#[derive(Drop)]
+#[derive(Clone, Copy)]
 pub enum Refusal {
     Short,
     Table,
@@ -52,7 +52,7 @@ impl Refusal {
 }
 
 // The first numbers or bytes of the lent memory were written, that many; or nothing was.
-#[derive(Drop)]
+#[derive(Clone, Copy)]
 pub enum Written {
     Count(usize),
     Refused(Refusal),

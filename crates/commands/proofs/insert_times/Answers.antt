@@ -1,0 +1,45 @@
+-- `commands::insert_times` meets its contract: one time for the program, or one a component.
+-- Assumes nothing.
+use mathlib.Core.Path.{◌≡◌, refl, sym, ap₂, ◌∙◌}
+use mathlib.Core.List.{◌∷◌}
+use Prim.Native.Nat.{ℕ, ◌+◌, ◌*◌}
+use native.Mathlib.Omega.{arith}
+use borrow.Author.Tests.{eq-eqb, ne_eqb}
+use Rattle.bits.specs.Bits.{bit, num}
+use Rattle.grammar.specs.Meaning.{Env, run}
+use Rattle.grammar.specs.Tables.{insert_times, insert_component}
+use Rattle.grammar.proofs.Run.{times, pass, short, yes_last, no_last, repeated_last, finished}
+use Rattle.grammar.proofs.Places.{octet}
+use Rattle.commands.proofs.insert_times.Goals as goal
+
+pub returns-then-splice_immediate_flag-eq0 : goal.returns-then-splice_immediate_flag-eq0
+unfolding insert_times
+returns-then-splice_immediate_flag-eq0 c =
+    yes_last (eq-eqb _ 1 (e ∙ c.if-program_splice_flag-eq1.true)) (yes_last (eq-eqb _ 0 (i ∙ c.if-splice_immediate_flag-eq0.true)) (c.splice_time.ensures env))
+
+pub returns-then-program_splice_flag-eq1 : goal.returns-then-program_splice_flag-eq1
+unfolding insert_times
+returns-then-program_splice_flag-eq1 c =
+    yes_last (eq-eqb _ 1 (e ∙ c.if-program_splice_flag-eq1.true)) (no_last (ne_eqb _ 0 (λ q. c.if-splice_immediate_flag-eq0.false (sym i ∙ q))) (finished refl))
+
+pub returns-then-end-at-lt1 : goal.returns-then-end-at-lt1
+unfolding insert_times
+returns-then-end-at-lt1 c =
+    no_last (ne_eqb _ 1 (λ q. c.if-program_splice_flag-eq1.false (sym e ∙ q))) (short (omega arith))
+
+pub overflow_cast-s : goal.overflow_cast-s
+overflow_cast-s c = omega (arith, c.shared_slice_known-2-1.given c.args.at)
+
+pub returns : goal.returns
+unfolding insert_times
+returns c =
+    let a = c.args in
+    let count : ℕ = num (bit a.s.now) (8 * a.at) 8 in
+    let known : Env = ("component_count", count) ∷ env in
+    let there : 8 * a.at + 8 ≡ 8 * (a.at + 1) = omega arith in
+    no_last (ne_eqb _ 1 (λ q. c.if-program_splice_flag-eq1.false (sym e ∙ q)))
+    (pass (omega arith)
+    (repeated_last
+    (ap₂ (λ (n k : ℕ). times n (run insert_component known (bit a.s.now) (8 * a.end)) k)
+    (octet a.s.now a.at (8 * a.at) (c.shared_slice_known-2-1.given a.at).fits refl) there
+    ∙ c.insert_components.ensures known i)))
