@@ -24,6 +24,7 @@ unfolding all_of
 all_at (c ∷ t) (suc n) zero l h e = ltb-true (sextet c) 64 (and_left (ltb (sextet c) 64) (all_of (take n t)) e)
 all_at (c ∷ t) (suc n) (suc i) l h e =
     all_at t n i (omega arith) (omega arith) (and_right (ltb (sextet c) 64) (all_of (take n t)) e)
+all_at (c ∷ t) zero i l h e = absurd (omega arith)
 all_at [] n i l h e = absurd (omega arith)
 
 pub all_not : (t : List ℕ) (n i : ℕ) → i < n → n ≤ length t → 64 ≤ sextet (get_or t i 0) → all_of (take n t) ≡ false
