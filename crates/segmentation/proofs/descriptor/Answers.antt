@@ -11,22 +11,22 @@ use Rattle.segmentation.proofs.FromId.{ComponentsRun, no_rows, cancelled, no_fla
 use Rattle.segmentation.proofs.descriptor.Goals as goal
 
 pub returns-then-end-at-lt5 : goal.returns-then-end-at-lt5
-returns-then-end-at-lt5 c =
+returns-then-end-at-lt5 c env =
     let a = c.args in
     no_rows a.s.now a.at a.end env (omega arith) c.if-end-at-lt5.true
 
 pub returns-then-s-at-ge128 : goal.returns-then-s-at-ge128
-returns-then-s-at-ge128 c =
+returns-then-s-at-ge128 c env =
     let a = c.args in
     cancelled a.s.now a.at a.end env c.if-end-at-lt5.false (omega (arith, c.shared_slice_known-2-1.given (a.at + 4))) c.if-s-at-ge128.true
 
 pub returns-then-end-at-lt6 : goal.returns-then-end-at-lt6
-returns-then-end-at-lt6 c =
+returns-then-end-at-lt6 c env =
     let a = c.args in
     no_flags a.s.now a.at a.end env c.if-end-at-lt5.false c.if-s-at-ge128.false c.if-end-at-lt6.true
 
 pub returns-in_default : goal.returns-in_default
-returns-in_default c =
+returns-in_default c env =
     let flags-byte : let a = c.args in get_or a.s.now (a.at + 5) 0 < 256 = omega (arith, c.shared_slice_known-3-1.given (c.args.at + 5)) in
     let a = c.args in
     components_off a.s.now a.at a.end env c.if-end-at-lt5.false c.if-s-at-ge128.false c.if-end-at-lt6.false (flags-byte)
@@ -40,7 +40,7 @@ segmentation_end-requires c =
     omega (arith, inside)
 
 pub returns-then-segmentation_duration_flag-eq0 : goal.returns-then-segmentation_duration_flag-eq0
-returns-then-segmentation_duration_flag-eq0 c =
+returns-then-segmentation_duration_flag-eq0 c env =
     let flags-byte : let a = c.args in get_or a.s.now (a.at + 5) 0 < 256 = omega (arith, c.shared_slice_known-3-1.given (c.args.at + 5)) in
     let components : let a = c.args in ComponentsRun a.s.now a.at a.end (ends (8 * c.in-At.n)) = λ v h. becomes (c.segmentation_components.ensures v h) (ap outcome c.in-At.is) in
     let a = c.args in
@@ -55,7 +55,7 @@ overflow_sub-end-3 c =
     (inside).1
 
 pub returns-then-end-n-lt5 : goal.returns-then-end-n-lt5
-returns-then-end-n-lt5 c =
+returns-then-end-n-lt5 c env =
     let flags-byte : let a = c.args in get_or a.s.now (a.at + 5) 0 < 256 = omega (arith, c.shared_slice_known-3-1.given (c.args.at + 5)) in
     let components : let a = c.args in ComponentsRun a.s.now a.at a.end (ends (8 * c.in-At.n)) = λ v h. becomes (c.segmentation_components.ensures v h) (ap outcome c.in-At.is) in
     let a = c.args in
@@ -63,7 +63,7 @@ returns-then-end-n-lt5 c =
     c.in-At.n (components) c.if-segmentation_duration_flag-eq0.false c.if-end-n-lt5.true
 
 pub returns : goal.returns
-returns c =
+returns c env =
     let flags-byte : let a = c.args in get_or a.s.now (a.at + 5) 0 < 256 = omega (arith, c.shared_slice_known-3-1.given (c.args.at + 5)) in
     let components : let a = c.args in ComponentsRun a.s.now a.at a.end (ends (8 * c.in-At.n)) = λ v h. becomes (c.segmentation_components.ensures v h) (ap outcome c.in-At.is) in
     let a = c.args in

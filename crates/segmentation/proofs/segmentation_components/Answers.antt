@@ -12,12 +12,12 @@ use Rattle.segmentation.proofs.segmentation_components.Goals as goal
 
 pub returns-then-program_segmentation_flag-ne0 : goal.returns-then-program_segmentation_flag-ne0
 unfolding segmentation_components
-returns-then-program_segmentation_flag-ne0 c =
+returns-then-program_segmentation_flag-ne0 c env e =
     no_last (ne_eqb _ 0 (λ q. c.if-program_segmentation_flag-ne0.true (sym e ∙ q))) (finished refl)
 
 pub returns-then-end-at-lt1 : goal.returns-then-end-at-lt1
 unfolding segmentation_components
-returns-then-end-at-lt1 c = yes_last (eq-eqb _ 0 (e ∙ c.if-program_segmentation_flag-ne0.false)) (short (omega arith))
+returns-then-end-at-lt1 c env e = yes_last (eq-eqb _ 0 (e ∙ c.if-program_segmentation_flag-ne0.false)) (short (omega arith))
 
 pub overflow_cast-component_count : goal.overflow_cast-component_count
 overflow_cast-component_count c = omega (arith, c.shared_slice_known-1.given c.args.at)
@@ -27,7 +27,7 @@ overflow_mul-component_count c = omega (arith, c.shared_slice_known-1.given c.ar
 
 pub returns-then-end-at : goal.returns-then-end-at
 unfolding segmentation_components
-returns-then-end-at c =
+returns-then-end-at c env e =
     let a = c.args in
     let byte : get_or a.s.now a.at 0 < 256 = omega (arith, c.shared_slice_known-1.given a.at) in
     yes_last (eq-eqb _ 0 (e ∙ c.if-program_segmentation_flag-ne0.false))
@@ -35,7 +35,7 @@ returns-then-end-at c =
 
 pub returns : goal.returns
 unfolding segmentation_components
-returns c =
+returns c env e =
     let a = c.args in
     let byte : get_or a.s.now a.at 0 < 256 = omega (arith, c.shared_slice_known-1.given a.at) in
     yes_last (eq-eqb _ 0 (e ∙ c.if-program_segmentation_flag-ne0.false))

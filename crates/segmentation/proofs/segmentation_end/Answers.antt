@@ -11,7 +11,7 @@ use Rattle.segmentation.proofs.FromUpid.{no_rows, upid_cut, type_cut, other_type
 use Rattle.segmentation.proofs.segmentation_end.Goals as goal
 
 pub returns-then-end-at-lt2 : goal.returns-then-end-at-lt2
-returns-then-end-at-lt2 c =
+returns-then-end-at-lt2 c env =
     let a = c.args in
     no_rows a.s.now a.at a.end env (omega arith) c.if-end-at-lt2.true
 
@@ -21,19 +21,19 @@ overflow_cast-segmentation_upid_length c =
     omega (arith, upid-byte)
 
 pub returns-then-end-at : goal.returns-then-end-at
-returns-then-end-at c =
+returns-then-end-at c env =
     let upid-byte : let a = c.args in get_or a.s.now (a.at + 1) 0 < 256 = omega (arith, c.shared_slice_known-2-1.given (c.args.at + 1)) in
     let a = c.args in
     upid_cut a.s.now a.at a.end env (upid-byte) c.if-end-at-lt2.false c.if-end-at.true
 
 pub returns-then-end-n-lt3 : goal.returns-then-end-n-lt3
-returns-then-end-n-lt3 c =
+returns-then-end-n-lt3 c env =
     let upid-byte : let a = c.args in get_or a.s.now (a.at + 1) 0 < 256 = omega (arith, c.shared_slice_known-2-1.given (c.args.at + 1)) in
     let a = c.args in
     type_cut a.s.now a.at a.end env (upid-byte) c.if-end-at-lt2.false _ refl c.if-end-at.false c.if-end-n-lt3.true
 
 pub returns-then-not-is_sub_segmented : goal.returns-then-not-is_sub_segmented
-returns-then-not-is_sub_segmented c =
+returns-then-not-is_sub_segmented c env =
     let upid-byte : let a = c.args in get_or a.s.now (a.at + 1) 0 < 256 = omega (arith, c.shared_slice_known-2-1.given (c.args.at + 1)) in
     let type-byte : let a = c.args in get_or a.s.now (a.at + 2 + get_or a.s.now (a.at + 1) 0) 0 < 256 = let a = c.args in
     omega (arith, c.shared_slice_known-3-1.given (a.at + 2 + get_or a.s.now (a.at + 1) 0)) in
@@ -43,7 +43,7 @@ returns-then-not-is_sub_segmented c =
     (type-byte) c.if-end-n-lt3.false (sub-segments false c.if-not-is_sub_segmented.true)
 
 pub returns-then-end-n-eq3 : goal.returns-then-end-n-eq3
-returns-then-end-n-eq3 c =
+returns-then-end-n-eq3 c env =
     let upid-byte : let a = c.args in get_or a.s.now (a.at + 1) 0 < 256 = omega (arith, c.shared_slice_known-2-1.given (c.args.at + 1)) in
     let type-byte : let a = c.args in get_or a.s.now (a.at + 2 + get_or a.s.now (a.at + 1) 0) 0 < 256 = let a = c.args in
     omega (arith, c.shared_slice_known-3-1.given (a.at + 2 + get_or a.s.now (a.at + 1) 0)) in
@@ -53,7 +53,7 @@ returns-then-end-n-eq3 c =
     (type-byte) c.if-end-n-lt3.false (sub-segments true c.if-not-is_sub_segmented.false) c.if-end-n-eq3.true
 
 pub returns-then-end-n-lt5 : goal.returns-then-end-n-lt5
-returns-then-end-n-lt5 c =
+returns-then-end-n-lt5 c env =
     let upid-byte : let a = c.args in get_or a.s.now (a.at + 1) 0 < 256 = omega (arith, c.shared_slice_known-2-1.given (c.args.at + 1)) in
     let type-byte : let a = c.args in get_or a.s.now (a.at + 2 + get_or a.s.now (a.at + 1) 0) 0 < 256 = let a = c.args in
     omega (arith, c.shared_slice_known-3-1.given (a.at + 2 + get_or a.s.now (a.at + 1) 0)) in
@@ -63,7 +63,7 @@ returns-then-end-n-lt5 c =
     (type-byte) c.if-end-n-lt3.false (sub-segments true c.if-not-is_sub_segmented.false) c.if-end-n-eq3.false c.if-end-n-lt5.true
 
 pub returns : goal.returns
-returns c =
+returns c env =
     let upid-byte : let a = c.args in get_or a.s.now (a.at + 1) 0 < 256 = omega (arith, c.shared_slice_known-2-1.given (c.args.at + 1)) in
     let type-byte : let a = c.args in get_or a.s.now (a.at + 2 + get_or a.s.now (a.at + 1) 0) 0 < 256 = let a = c.args in
     omega (arith, c.shared_slice_known-3-1.given (a.at + 2 + get_or a.s.now (a.at + 1) 0)) in
