@@ -7,8 +7,8 @@ use Rattle.commands.proofs.avail_numbers.Goals as goal
 
 pub returns-then-end-at-lt4 : goal.returns-then-end-at-lt4
 unfolding avail_numbers
-returns-then-end-at-lt4 c = short (omega arith)
+returns-then-end-at-lt4 c env f = short (omega arith)
 
 pub returns : goal.returns
 unfolding avail_numbers
-returns c = pass (omega arith) (finished (omega arith))
+returns c env f = pass (omega arith) (finished (omega arith))

@@ -15,57 +15,57 @@ use Rattle.commands.proofs.command.Goals as goal
 
 pub returns-in-0 : goal.returns-in-0
 unfolding table_of
-returns-in-0 c =
+returns-in-0 c env =
     let a = c.args in
     let p : Prog = cond a.sized private_command stop in
     let o : Prog = cond a.sized (bytes "command_byte") stop in
-    ⊎_elim (λ e. of_type p o a.splice-command-type 0x00 e (finished refl)) (λ e. of_type p o a.splice-command-type 0x07 e (finished refl)) c.in-0.is
+    ⊎_elim (λ e. of_type p o a.splice_command_type 0x00 e (finished refl)) (λ e. of_type p o a.splice_command_type 0x07 e (finished refl)) c.in-0.is
 
 pub returns-in-4 : goal.returns-in-4
 unfolding table_of
-returns-in-4 c =
+returns-in-4 c env =
     let a = c.args in
-    of_type (cond a.sized private_command stop) (cond a.sized (bytes "command_byte") stop) a.splice-command-type 0x04 c.in-4.is (c.splice_schedule.ensures env)
+    of_type (cond a.sized private_command stop) (cond a.sized (bytes "command_byte") stop) a.splice_command_type 0x04 c.in-4.is (c.splice_schedule.ensures env)
 
 pub returns-in-5 : goal.returns-in-5
 unfolding table_of
-returns-in-5 c =
+returns-in-5 c env =
     let a = c.args in
-    of_type (cond a.sized private_command stop) (cond a.sized (bytes "command_byte") stop) a.splice-command-type 0x05 c.in-5.is (c.splice_insert.ensures env)
+    of_type (cond a.sized private_command stop) (cond a.sized (bytes "command_byte") stop) a.splice_command_type 0x05 c.in-5.is (c.splice_insert.ensures env)
 
 pub returns-in-6 : goal.returns-in-6
 unfolding table_of
-returns-in-6 c =
+returns-in-6 c env =
     let a = c.args in
-    of_type (cond a.sized private_command stop) (cond a.sized (bytes "command_byte") stop) a.splice-command-type 0x06 c.in-6.is (c.splice_time.ensures env)
+    of_type (cond a.sized private_command stop) (cond a.sized (bytes "command_byte") stop) a.splice_command_type 0x06 c.in-6.is (c.splice_time.ensures env)
 
 pub returns-then-sized : goal.returns-then-sized
 unfolding table_of
-returns-then-sized c =
+returns-then-sized c env =
     let a = c.args in
-    of_type (cond a.sized private_command stop) (cond a.sized (bytes "command_byte") stop) a.splice-command-type 0xFF c.in-255.is (rw c.if-sized.true (c.private_command.ensures env (bit a.s.now)))
+    of_type (cond a.sized private_command stop) (cond a.sized (bytes "command_byte") stop) a.splice_command_type 0xFF c.in-255.is (rw c.if-sized.true (c.private_command.ensures env (bit a.s.now)))
 
 pub returns-else-sized : goal.returns-else-sized
 unfolding table_of
-returns-else-sized c =
+returns-else-sized c env =
     let a = c.args in
-    of_type (cond a.sized private_command stop) (cond a.sized (bytes "command_byte") stop) a.splice-command-type 0xFF c.in-255.is (rw c.if-sized.false stopped)
+    of_type (cond a.sized private_command stop) (cond a.sized (bytes "command_byte") stop) a.splice_command_type 0xFF c.in-255.is (rw c.if-sized.false stopped)
 
 pub returns-then-sized-2 : goal.returns-then-sized-2
 unfolding table_of
-returns-then-sized-2 c =
+returns-then-sized-2 c env =
     let a = c.args in
-    let no = c.in_default.rest in
+    let no = c.in_default.in_default-own.rest in
     let all : 8 * a.at + 8 * (a.end - a.at) ≡ 8 * a.end = omega arith in
-    otherwise (cond a.sized private_command stop) (cond a.sized (bytes "command_byte") stop) a.splice-command-type
+    otherwise (cond a.sized private_command stop) (cond a.sized (bytes "command_byte") stop) a.splice_command_type
     (λ e. no.0.0.0.0.1 (inl e)) no.0.0.0.1 no.0.0.1 no.0.1 (λ e. no.0.0.0.0.1 (inr e)) no.1
     (rw c.if-sized-2.true (filled_last (swept_bytes "command_byte" env (bit a.s.now) (8 * a.end) (a.end - a.at) (8 * a.at) all)))
 
 pub returns-else-sized-2 : goal.returns-else-sized-2
 unfolding table_of
-returns-else-sized-2 c =
+returns-else-sized-2 c env =
     let a = c.args in
-    let no = c.in_default.rest in
-    otherwise (cond a.sized private_command stop) (cond a.sized (bytes "command_byte") stop) a.splice-command-type
+    let no = c.in_default.in_default-own.rest in
+    otherwise (cond a.sized private_command stop) (cond a.sized (bytes "command_byte") stop) a.splice_command_type
     (λ e. no.0.0.0.0.1 (inl e)) no.0.0.0.1 no.0.0.1 no.0.1 (λ e. no.0.0.0.0.1 (inr e)) no.1
     (rw c.if-sized-2.false stopped)

@@ -11,16 +11,16 @@ use Rattle.commands.proofs.insert_component.Goals as goal
 
 pub returns-then-end-at-lt1 : goal.returns-then-end-at-lt1
 unfolding insert_component
-returns-then-end-at-lt1 c = short (omega arith)
+returns-then-end-at-lt1 c env e = short (omega arith)
 
 pub returns-then-splice_immediate_flag-eq0 : goal.returns-then-splice_immediate_flag-eq0
 unfolding insert_component
-returns-then-splice_immediate_flag-eq0 c =
+returns-then-splice_immediate_flag-eq0 c env e =
     let a = c.args in
     let place : 8 * a.at + 8 ≡ 8 * (a.at + 1) = omega arith in
     pass (omega arith) (yes_last (eq-eqb _ 0 (e ∙ c.if-splice_immediate_flag-eq0.true)) (at_place place (c.splice_time.ensures _)))
 
 pub returns : goal.returns
 unfolding insert_component
-returns c =
+returns c env e =
     pass (omega arith) (no (ne_eqb _ 0 (λ q. c.if-splice_immediate_flag-eq0.false (sym e ∙ q))) (finished refl) (finished (omega arith)).runs)

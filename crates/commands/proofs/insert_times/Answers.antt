@@ -14,17 +14,17 @@ use Rattle.commands.proofs.insert_times.Goals as goal
 
 pub returns-then-splice_immediate_flag-eq0 : goal.returns-then-splice_immediate_flag-eq0
 unfolding insert_times
-returns-then-splice_immediate_flag-eq0 c =
+returns-then-splice_immediate_flag-eq0 c env e i =
     yes_last (eq-eqb _ 1 (e ∙ c.if-program_splice_flag-eq1.true)) (yes_last (eq-eqb _ 0 (i ∙ c.if-splice_immediate_flag-eq0.true)) (c.splice_time.ensures env))
 
 pub returns-then-program_splice_flag-eq1 : goal.returns-then-program_splice_flag-eq1
 unfolding insert_times
-returns-then-program_splice_flag-eq1 c =
+returns-then-program_splice_flag-eq1 c env e i =
     yes_last (eq-eqb _ 1 (e ∙ c.if-program_splice_flag-eq1.true)) (no_last (ne_eqb _ 0 (λ q. c.if-splice_immediate_flag-eq0.false (sym i ∙ q))) (finished refl))
 
 pub returns-then-end-at-lt1 : goal.returns-then-end-at-lt1
 unfolding insert_times
-returns-then-end-at-lt1 c =
+returns-then-end-at-lt1 c env e i =
     no_last (ne_eqb _ 1 (λ q. c.if-program_splice_flag-eq1.false (sym e ∙ q))) (short (omega arith))
 
 pub overflow_cast-s : goal.overflow_cast-s
@@ -32,7 +32,7 @@ overflow_cast-s c = omega (arith, c.shared_slice_known-2-1.given c.args.at)
 
 pub returns : goal.returns
 unfolding insert_times
-returns c =
+returns c env e i =
     let a = c.args in
     let count : ℕ = num (bit a.s.now) (8 * a.at) 8 in
     let known : Env = ("component_count", count) ∷ env in

@@ -9,11 +9,11 @@ use Rattle.commands.proofs.private_command.Goals as goal
 
 pub returns-then-end-at-lt4 : goal.returns-then-end-at-lt4
 unfolding private_command
-returns-then-end-at-lt4 c = short (omega arith)
+returns-then-end-at-lt4 c env f = short (omega arith)
 
 pub returns : goal.returns
 unfolding private_command
-returns c =
+returns c env f =
     let a = c.args in
     let there : 8 * a.at + 32 + 8 * (a.end - (a.at + 4)) ≡ 8 * a.end = omega arith in
     pass (omega arith) (filled_last (swept_bytes "private_byte" _ f (8 * a.end) (a.end - (a.at + 4)) (8 * a.at + 32) there))

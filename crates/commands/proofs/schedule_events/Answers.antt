@@ -16,7 +16,7 @@ pub loop-left-init : goal.loop-left-init
 loop-left-init c = (omega arith, λ env. refl)
 
 pub returns-in_default : goal.returns-in_default
-returns-in_default c =
+returns-in_default c env =
     let a = c.args in
     let l = c.loop-left in
     let one = c.schedule_event in
@@ -36,7 +36,7 @@ loop-left-preserved c =
     )
 
 pub returns : goal.returns
-returns c =
+returns c env =
     let a = c.args in
     let l = c.loop-left in
     l.invariant.1 env ∙ times_none l.left (run schedule_event env (bit a.s.now) (8 * a.end)) (8 * l.next) (omega arith)

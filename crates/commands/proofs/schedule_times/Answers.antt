@@ -12,16 +12,16 @@ use Rattle.commands.proofs.schedule_times.Goals as goal
 
 pub returns-then-end-at-lt4 : goal.returns-then-end-at-lt4
 unfolding schedule_times
-returns-then-end-at-lt4 c = yes_last (eq-eqb _ 1 (e ∙ c.if-program_splice_flag-eq1.true)) (short (omega arith))
+returns-then-end-at-lt4 c env e = yes_last (eq-eqb _ 1 (e ∙ c.if-program_splice_flag-eq1.true)) (short (omega arith))
 
 pub returns-then-program_splice_flag-eq1 : goal.returns-then-program_splice_flag-eq1
 unfolding schedule_times
-returns-then-program_splice_flag-eq1 c =
+returns-then-program_splice_flag-eq1 c env e =
     yes_last (eq-eqb _ 1 (e ∙ c.if-program_splice_flag-eq1.true)) (pass (omega arith) (finished (omega arith)))
 
 pub returns-then-end-at-lt1 : goal.returns-then-end-at-lt1
 unfolding schedule_times
-returns-then-end-at-lt1 c =
+returns-then-end-at-lt1 c env e =
     no_last (ne_eqb _ 1 (λ q. c.if-program_splice_flag-eq1.false (sym e ∙ q))) (short (omega arith))
 
 pub overflow_cast-components : goal.overflow_cast-components
@@ -32,7 +32,7 @@ overflow_mul-components c = omega (arith, c.shared_slice_known-1.given c.args.at
 
 pub returns-then-end-at : goal.returns-then-end-at
 unfolding schedule_times
-returns-then-end-at c =
+returns-then-end-at c env e =
     let a = c.args in
     let count : ℕ = get_or a.s.now a.at 0 in
     no_last (ne_eqb _ 1 (λ q. c.if-program_splice_flag-eq1.false (sym e ∙ q)))
@@ -41,7 +41,7 @@ returns-then-end-at c =
 
 pub returns : goal.returns
 unfolding schedule_times
-returns c =
+returns c env e =
     let a = c.args in
     let count : ℕ = get_or a.s.now a.at 0 in
     no_last (ne_eqb _ 1 (λ q. c.if-program_splice_flag-eq1.false (sym e ∙ q)))

@@ -15,23 +15,23 @@ use Rattle.commands.proofs.splice_insert.Goals as goal
 
 pub returns-then-end-at-lt5 : goal.returns-then-end-at-lt5
 unfolding splice_insert
-returns-then-end-at-lt5 c = short (omega arith)
+returns-then-end-at-lt5 c env = short (omega arith)
 
 pub returns-then-s-at-ge128 : goal.returns-then-s-at-ge128
 unfolding splice_insert
-returns-then-s-at-ge128 c =
+returns-then-s-at-ge128 c env =
     let a = c.args in
     cancelled a.s.now a.at a.end env (omega arith) _ c.if-s-at-ge128.true (c.shared_slice_known-2-1.given (a.at + 4)).fits
 
 pub returns-then-end-at-lt6 : goal.returns-then-end-at-lt6
 unfolding splice_insert
-returns-then-end-at-lt6 c =
+returns-then-end-at-lt6 c env =
     let a = c.args in
     going_on a.s.now a.at a.end env (omega arith) c.if-s-at-ge128.false (short (omega arith))
 
 pub returns-in_default : goal.returns-in_default
 unfolding splice_insert
-returns-in_default c =
+returns-in_default c env =
     let a = c.args in
     let place : 8 * (a.at + 5) + 8 ≡ 8 * (a.at + 6) = omega arith in
     going_on a.s.now a.at a.end env (omega arith) c.if-s-at-ge128.false
@@ -46,7 +46,7 @@ avails-requires c =
 
 pub returns : goal.returns
 unfolding splice_insert
-returns c =
+returns c env =
     let a = c.args in
     let place : 8 * (a.at + 5) + 8 ≡ 8 * (a.at + 6) = omega arith in
     going_on a.s.now a.at a.end env (omega arith) c.if-s-at-ge128.false

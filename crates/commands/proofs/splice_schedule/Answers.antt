@@ -13,14 +13,14 @@ use Rattle.commands.proofs.splice_schedule.Goals as goal
 
 pub returns-then-end-at-lt1 : goal.returns-then-end-at-lt1
 unfolding splice_schedule
-returns-then-end-at-lt1 c = short (omega arith)
+returns-then-end-at-lt1 c env = short (omega arith)
 
 pub overflow_cast-s : goal.overflow_cast-s
 overflow_cast-s c = omega (arith, c.shared_slice_known-2-1.given c.args.at)
 
 pub returns : goal.returns
 unfolding splice_schedule
-returns c =
+returns c env =
     let a = c.args in
     let known : Env = ("splice_count", num (bit a.s.now) (8 * a.at) 8) ∷ env in
     let there : 8 * a.at + 8 ≡ 8 * (a.at + 1) = omega arith in
