@@ -5,11 +5,9 @@ use mathlib.Core.Bool.{false}
 use Prim.Native.Nat.{◌+◌, ◌*◌, ◌≤◌, ◌<◌}
 use lib.ListN.{length}
 use lib.Dec.{leb}
-use borrow.Author.Rules.{rules}
 use borrow.Author.Tests.{le-leb, lt-leb}
 use Rattle.fields.specs.Fields.{Plan, roomy}
-use Rattle.fields.proofs.has_room.Statement.{statement}
-use Rattle.fields.proofs.has_room.Tie as tie
+use Rattle.fields.proofs.has_room.Goals as goal
 
 -- too long; past its end; by the place
 long : (π : Plan) → 32768 < length π.widths → false ≡ roomy π
@@ -24,20 +22,11 @@ inside : (π : Plan) → length π.widths ≤ 32768 → π.number ≤ length π.
 unfolding roomy
 inside π h l = rw (le-leb (length π.widths) 32768 h, le-leb π.number (length π.widths) l)
 
-returns : tie.Need-returns
-returns c = long _ c.if1.true
+pub returns-then-widths-gt-MOST_FIELDS : goal.returns-then-widths-gt-MOST_FIELDS
+returns-then-widths-gt-MOST_FIELDS c = long _ c.if-widths-gt-MOST_FIELDS.true
 
-returns-2 : tie.Need-returns-2
-returns-2 c = past _ c.before.before.if1.false c.if2.true
+pub returns-then-widths-p : goal.returns-then-widths-p
+returns-then-widths-p c = past _ c.if-widths-gt-MOST_FIELDS.false c.if-widths-p.true
 
-mul-result : tie.Need-overflow-mul-result
-mul-result c = search rules
-
-add-result : tie.Need-overflow-add-result
-add-result c = search rules
-
-returns-3 : tie.Need-returns-3
-returns-3 c = inside _ c.before.before.before.before.if1.false c.before.before.if2.false
-
-pub has-room-spec : {M : Type 1} → statement M
-has-room-spec = tie.close (tie.spec returns returns-2 mul-result add-result returns-3)
+pub returns : goal.returns
+returns c = inside _ c.if-widths-gt-MOST_FIELDS.false c.if-widths-p.false
