@@ -1,12 +1,9 @@
 -- The rows of the known descriptor at a cursor, by what a step from there finds.
 -- Assumes nothing.
 use mathlib.Core.Path.{◌≡◌, refl, ap, ◌∙◌}
-use mathlib.Core.Bool.{Bool, true, false, cond, false≢true}
-use mathlib.Core.List.{List, [], ◌∷◌}
+use mathlib.Core.Bool.{Bool, true, false, cond}
+use mathlib.Core.List.{List, []}
 use Prim.Native.Nat.{ℕ, ◌≤◌, ◌<◌}
-use types.Run.{OneOf}
-use denote.Enum.Declared.{tag_of}
-use lib.Dec.{ltb}
 use lib.ListN.{length}
 use borrow.Author.Tests.{le-leb, lt-leb}
 use Rattle.grammar.specs.Traces.{Trace}
@@ -15,13 +12,11 @@ use Rattle.descriptors.specs.declared.Kind.{Kind}
 use Rattle.descriptors.specs.declared.Step.{Step}
 use Rattle.descriptors.specs.Walk.{step_of}
 use Rattle.descriptors.specs.Loop.{trace_at}
-use Rattle.descriptors.specs.contracts.Step as declared
-use Rattle.grammar.proofs.Keys.{one_of}
 use Rattle.known_walk.specs.Known.{is_known, of_known, standing_trace}
 
 -- a step that finds none
-other : (σ : Step) (t : Trace) → OneOf (1 ∷ 2 ∷ []) (tag_of declared.the_type σ) → of_known σ t ≡ []
-other (Step.Descriptor kind next) t h = absurd (false≢true (one_of (ltb 0) (1 ∷ 2 ∷ []) 0 refl h))
+other : (σ : Step) (t : Trace) → ((kind : Kind) (next : Cursor) → σ ≡ Step.Descriptor kind next → ⊥) → of_known σ t ≡ []
+other (Step.Descriptor kind next) t h = absurd (h kind next refl)
 other Step.Done t h = refl
 other Step.Broken t h = refl
 
@@ -34,7 +29,7 @@ module _ (s : List ℕ) (c : Cursor) where
   unfolding standing_trace
   by_step σ h e = (λ i. cond (le-leb (length s) 4096 h i) (of_known (e i) (trace_at s c)) [])
 
-  pub none_here : (σ : Step) → length s ≤ 4096 → step_of s c ≡ σ → OneOf (1 ∷ 2 ∷ []) (tag_of declared.the_type σ) → standing_trace s c ≡ []
+  pub none_here : (σ : Step) → length s ≤ 4096 → step_of s c ≡ σ → ((kind : Kind) (next : Cursor) → σ ≡ Step.Descriptor kind next → ⊥) → standing_trace s c ≡ []
   none_here σ h e o = by_step σ h e ∙ other σ (trace_at s c) o
 
   -- a descriptor, and a known one
