@@ -22,7 +22,7 @@ use Rattle.command_reading.specs.Command as says
 use Rattle.command_reading.specs.Places.{time_at, insert_at}
 use Rattle.command_reading.proofs.Table.{Read, table_read}
 use Rattle.command_reading.proofs.Times.{time_tells}
-use Rattle.command_reading.proofs.Insert.{insert_tells}
+use Rattle.command_reading.proofs.Inserts.{insert_tells}
 use Rattle.command_reading.proofs.Private.{Private, private_tells}
 
 -- a command that breaks its table is refused

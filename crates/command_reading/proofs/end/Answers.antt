@@ -13,8 +13,7 @@ use Rattle.grammar.specs.Meaning.{breach, end_of, run}
 use Rattle.commands.specs.Command.{command_end}
 use Rattle.command_reading.specs.Command.{is_of_size, command_reading}
 use borrow.Author.Rules.{rules}
-use Rattle.command_reading.proofs.end.Statement.{statement}
-use Rattle.command_reading.proofs.end.Tie as tie
+use Rattle.command_reading.proofs.end.Goals as goal
 
 too_long : (s : List ℕ) → 4096 < length s → breach 0 ≡ end_of (command_reading s)
 unfolding command_reading end_of
@@ -30,14 +29,8 @@ same_end s h =
     (λ short. rw (lt-ltb (length s) 20 short, lt-leb 20 (length s) short))
     (le_or_lt 20 (length s))
 
-returns : tie.Need-returns
-returns c = too_long c.before.before.args.s.now c.if1.true
+pub returns-then-s-gt-MOST_SECTION : goal.returns-then-s-gt-MOST_SECTION
+returns-then-s-gt-MOST_SECTION c = too_long c.args.s.now c.if-s-gt-MOST_SECTION.true
 
-command-end-requires : tie.Need-command-end-requires
-command-end-requires c κs = search rules
-
-returns-2 : tie.Need-returns-2
-returns-2 c = c.command-end.ensures ∙ same_end c.before.before.before.args.s.now (search rules)
-
-pub end-spec : {M : Type 1} → statement M
-end-spec = tie.close (tie.spec returns command-end-requires returns-2)
+pub returns : goal.returns
+returns c = c.command_end.ensures ∙ same_end c.args.s.now (search rules)
