@@ -89,7 +89,7 @@ function is_fact(message) {
 
 # The crates with a function that is a table, which has an arm for each number.
 BEGIN {
-    tables["base64"]
+    tables["base64_rules"]
     tables["crc_table_0"]
     tables["crc_table_1"]
     tables["crc_table_2"]

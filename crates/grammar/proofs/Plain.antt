@@ -1,6 +1,6 @@
 -- A table breaks with a number that it gives, or with 0; so one that gives none breaks with 0.
 -- Assumes nothing.
-use mathlib.Core.Path.{◌≡◌, refl}
+use mathlib.Core.Path.{◌≡◌, refl, subst}
 use mathlib.Core.Bool.{Bool, true, false, cond, ◌&&◌, ◌||◌, false≢true}
 use mathlib.Core.List.{List, [], ◌∷◌}
 use mathlib.Core.Logic.{◌⊎◌, inl, inr, ⊎_elim}
@@ -101,7 +101,7 @@ unfolding run end_of
 breach_given ns p h env f end k n e = go (told p h env f end k) e
   where
     go : {r : Reading} → Told ns r → end_of r ≡ breach n → is_among n (0 ∷ ns) ≡ true
-    go (off {n = m} q) d = let same : m ≡ n = cc in rw same at q
+    go (off {n = m} q) d = let same : m ≡ n = cc in subst (λ (x : ℕ). is_among x (0 ∷ ns) ≡ true) same q
     go at d = let z : ◌≡◌ {A = ℕ} 0 1 = cc in absurd (omega arith)
 
 -- one of several is the first or one of the others

@@ -166,7 +166,7 @@ bytes_give {P} n env f end steps zero k few e h =
 bytes_give {P} n env f end steps (suc m) k few e h =
     subst (Gives P) (sym (sweep_more steps _ end k few (omega arith)))
     (one_byte n env f end k (λ i. sweep (end - i) (λ j. read (fields (field 8 n ∷ []) done) env f end j) end i)
-    (bytes_give n env f end (end - (k + 8)) m (k + 8) (omega arith) (omega arith) h))
+    (bytes_give {P = λ j t. P j (values (field 8 n ∷ []) f k ++ t)} n env f end (end - (k + 8)) m (k + 8) (omega arith) (omega arith) h))
 
 -- so many bytes are all that is left
 pub to_end : {P : ℕ → Trace → Type 0} {n : String} {env : Env} {f : ℕ → ℕ} {end k : ℕ} (m : ℕ) → k + 8 * m ≡ end

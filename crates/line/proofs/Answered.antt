@@ -15,8 +15,8 @@ use Rattle.units.specs.declared.refusals.Written.{Written}
 use Rattle.units.specs.Answers.{answer, memory}
 use Rattle.breaks.specs.Breaks.{break_answer}
 use Rattle.text.specs.Text.{read_row, read, read_into, count, decoded}
-use Rattle.base64.proofs.Counts.{before_le}
-use Rattle.base64.proofs.Decoded.{length_decoded}
+use Rattle.base64_rules.proofs.Counts.{before_le}
+use Rattle.base64_rules.proofs.Decoded.{length_decoded}
 use Rattle.text.proofs.Rows.{row_long, row_room, accepted}
 use Rattle.spelling.specs.declared.Line.{Line}
 use Rattle.line.specs.Line.{in_millis, answer_by, answer_in, line_answer}

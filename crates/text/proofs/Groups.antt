@@ -12,11 +12,11 @@ use lib.ListN.{length, get_or, take}
 use borrow.Author.Tests.{lt-ltb, le-ltb}
 use Rattle.bits.specs.Bits.{num}
 use Rattle.bits.proofs.Cases.{is_false}
-use Rattle.base64.specs.Base64.{sextet, six}
-use Rattle.base64.proofs.AllOf.{all_at}
-use Rattle.base64.proofs.Counts.{before_le}
-use Rattle.base64.proofs.Padding.{padding_at}
-use Rattle.base64.proofs.TextBits.{text_group}
+use Rattle.base64_rules.specs.Base64.{sextet, six}
+use Rattle.base64_rules.proofs.AllOf.{all_at}
+use Rattle.base64_rules.proofs.Counts.{before_le}
+use Rattle.base64_rules.proofs.Padding.{padding_at}
+use Rattle.base64_rules.proofs.TextBits.{text_group}
 use Rattle.text.specs.Groups.{plain, worth}
 use Rattle.text.specs.Text.{before, text_bit, all_of}
 

@@ -14,15 +14,15 @@ use Rattle.bits.proofs.Digits.{zeros}
 use Rattle.bits.proofs.Bytes.{AreBytes, bit_lt, bit_past, bytes_of_bit, bytes_of_ext}
 use Rattle.units.specs.declared.refusals.Written.TheVariants.{Count}
 use Rattle.text.specs.Text.{character, before, text_bit, count, decoded, spare, read_row, read, read_into, text_length, encoded, write, write_into}
-use Rattle.base64.proofs.Alphabet.{character_sextet}
-use Rattle.base64.proofs.AllOf.{all_each, all_at}
-use Rattle.base64.proofs.Counts.{inside, as_long, all_bits, before_le}
-use Rattle.base64.proofs.Decoded.{length_decoded, decoded_bits}
-use Rattle.base64.proofs.Encoded.{length_encoded, encoded_at, encoded_whole, sextet_of, count_encoded, encoded_bits}
-use Rattle.base64.proofs.Padding.{padding_at}
+use Rattle.base64_rules.proofs.Alphabet.{character_sextet}
+use Rattle.base64_rules.proofs.AllOf.{all_each, all_at}
+use Rattle.base64_rules.proofs.Counts.{inside, as_long, all_bits, before_le}
+use Rattle.base64_rules.proofs.Decoded.{length_decoded, decoded_bits}
+use Rattle.base64_rules.proofs.Encoded.{length_encoded, encoded_at, encoded_whole, sextet_of, count_encoded, encoded_bits}
+use Rattle.base64_rules.proofs.Padding.{padding_at}
 use Rattle.text_writing.proofs.WriteRows.{writes_as, row_written}
 use Rattle.text.proofs.Rows.{Accepted, row_none, accepted, reads_as}
-use Rattle.base64.proofs.TextBits.{sextet_whole, character_at_in, character_at_past}
+use Rattle.base64_rules.proofs.TextBits.{sextet_whole, character_at_in, character_at_past}
 
 -- the bytes of the text of s are s
 pub decoded_encoded : (s : List ℕ) → AreBytes s → decoded (encoded s) ≡ s

@@ -15,7 +15,7 @@ use Rattle.units.specs.Answers.{answer, memory}
 use Rattle.units.specs.Put.{fits, put_into}
 use Rattle.units.proofs.Put.{at_front, unchanged}
 use Rattle.units.proofs.Rows.{passed}
-use Rattle.base64.proofs.Decoded.{length_decoded}
+use Rattle.base64_rules.proofs.Decoded.{length_decoded}
 use Rattle.text.specs.Text.{before, count, decoded, all_of, spare, read_row, read, read_into}
 
 -- the row that applies settles the answer and the lent memory

@@ -1,7 +1,7 @@
 -- A text four characters at a time: what a group of them makes, and which of its characters is padding.
 -- Assumes nothing.
 use Rattle.std.specs.Prelude.{ℕ, zero, suc, ◌+◌, ◌*◌, cond, List, get_or, ltb}
-use Rattle.base64.specs.Base64.{six}
+use Rattle.base64_rules.specs.Base64.{six}
 
 -- character i of the text; from place n on, where the padding stands, the character of six bits of 0
 unfoldable pub plain : List ℕ → ℕ → ℕ → ℕ

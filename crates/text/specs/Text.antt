@@ -1,6 +1,6 @@
 -- The way from text to bytes, with the rows of paper 01 that refuse; and, passed on, base64 and the way from bytes to text.
 -- Assumes nothing.
-unfoldable pub use Rattle.base64.specs.Base64.{character, sextet, padding, before, text_bit, count, decoded, all_of, spare, text_length, character_at, encoded}
+unfoldable pub use Rattle.base64_rules.specs.Base64.{character, sextet, padding, before, text_bit, count, decoded, all_of, spare, text_length, character_at, encoded}
 unfoldable pub use Rattle.text_writing.specs.Writing.{write_row, write, write_into}
 use Rattle.std.specs.Prelude.{ℕ, ◌%◌, not, ◌||◌, List, [], ◌∷◌, length, take, ltb, eqb}
 use Rattle.units.specs.declared.refusals.Written.{Written}

@@ -6,7 +6,7 @@ ghost use Rattle.units.specs.Answers.{memory};
 ghost use Rattle.text.specs.Groups.{plain, worth};
 ghost use Rattle.text.specs.Text.{padding, before, text_bit, all_of, read, read_into};
 
-use base64::OUTSIDE;
+use base64_rules::OUTSIDE;
 use units::{Refusal, Written};
 
 // How many `=` end the text as padding.
@@ -50,7 +50,7 @@ fn group(text: &[u8], n: usize, at: usize) -> u64
     ];
     let mut v: u64 = 0;
     for k in 0..4 {
-        v = v * 64 + base64::six(four[k]);
+        v = v * 64 + base64_rules::six(four[k]);
     }
     v
 }

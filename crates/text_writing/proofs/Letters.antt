@@ -10,8 +10,8 @@ use lib.Dec.{ltb}
 use lib.ListN.{length, get_or, get_or-eq_default}
 use borrow.Author.Tests.{lt-ltb, le-ltb}
 use Rattle.bits.specs.Bits.{bit, num}
-use Rattle.base64.specs.Base64.{character, character_at}
-use Rattle.base64.proofs.TextBits.{byte_group, letter_cut, character_at_past}
+use Rattle.base64_rules.specs.Base64.{character, character_at}
+use Rattle.base64_rules.proofs.TextBits.{byte_group, letter_cut, character_at_past}
 
 module _ (s : List ℕ) (q : ℕ) where
   v : ℕ

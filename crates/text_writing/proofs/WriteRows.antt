@@ -6,7 +6,7 @@ use Prim.Native.Nat.{ℕ, ◌<◌, ◌≤◌}
 use lib.ListN.{length}
 use borrow.Author.Tests.{lt-ltb, le-ltb}
 use Rattle.units.specs.Answers.{answer, memory}
-use Rattle.base64.specs.Base64.{text_length, encoded}
+use Rattle.base64_rules.specs.Base64.{text_length, encoded}
 use Rattle.text_writing.specs.Writing.{write_row, write, write_into}
 
 -- the row that applies settles the answer and the lent memory

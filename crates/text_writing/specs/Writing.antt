@@ -4,7 +4,7 @@ use Rattle.std.specs.Prelude.{ℕ, List, [], ◌∷◌, length, ltb}
 use Rattle.units.specs.declared.refusals.Written.{Written}
 use Rattle.units.specs.Refusals.{first}
 use Rattle.units.specs.Answers.{answer, memory}
-use Rattle.base64.specs.Base64.{text_length, encoded}
+use Rattle.base64_rules.specs.Base64.{text_length, encoded}
 
 -- the first row that applies to writing the text of s into a room of that many characters, 0 where none does
 unfoldable pub write_row : List ℕ → ℕ → ℕ

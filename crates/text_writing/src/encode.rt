@@ -3,7 +3,7 @@ ghost use Rattle.std.specs.Prelude.{◌≡◌, ◌+◌, ◌*◌, ◌≤◌, ◌<
 ghost use Rattle.std.proofs.lemmas.List.Edits.{sets};
 ghost use Rattle.bits.specs.Bits.{run};
 ghost use Rattle.units.specs.Answers.{memory};
-ghost use Rattle.base64.specs.Base64.{character, character_at, text_length, encoded};
+ghost use Rattle.base64_rules.specs.Base64.{character, character_at, text_length, encoded};
 
 // The character that six bits stand for. A match on every value, without ranges, becomes one look-up without a test, and an
 // array would be copied to the stack at each use.

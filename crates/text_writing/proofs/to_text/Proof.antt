@@ -5,7 +5,7 @@ use mathlib.Core.Path.{◌≡◌, ap, ◌∙◌}
 use mathlib.Core.Logic.{⊎_elim}
 use native.Mathlib.Omega.{arith}
 use Rattle.units.specs.declared.refusals.Written.TheVariants.{Count}
-use Rattle.base64.specs.Base64.{text_length}
+use Rattle.base64_rules.specs.Base64.{text_length}
 use Rattle.text_writing.proofs.WriteRows.{writes_as, row_size, row_no_room, row_written}
 use Rattle.text_writing.proofs.to_text.Statement.{statement}
 use Rattle.text_writing.proofs.to_text.Tie as tie

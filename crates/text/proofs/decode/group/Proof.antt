@@ -4,7 +4,7 @@
 use mathlib.Core.Path.{◌≡◌, refl, sym, ap, ◌∙◌}
 use Prim.Native.Nat.{◌+◌, ◌-◌, ◌≤◌}
 use native.Mathlib.Omega.{arith}
-use Rattle.base64.specs.Base64.{six}
+use Rattle.base64_rules.specs.Base64.{six}
 use Rattle.text.specs.Groups.{plain, worth}
 use Rattle.text.proofs.Groups.{worth_none, worth_more, room, laid, plain_in}
 use Rattle.text.proofs.decode.group.Statement.{statement}

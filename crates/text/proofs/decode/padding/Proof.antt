@@ -3,7 +3,7 @@
 use borrow.Author.Rules.{rules}
 use mathlib.Core.Path.{sym}
 use native.Mathlib.Omega.{arith}
-use Rattle.base64.proofs.Padding.{padding_empty, padding_none, padding_one, padding_two}
+use Rattle.base64_rules.proofs.Padding.{padding_empty, padding_none, padding_one, padding_two}
 use Rattle.text.proofs.decode.padding.Statement.{statement}
 use Rattle.text.proofs.decode.padding.Tie as tie
 

@@ -8,13 +8,13 @@ use native.Mathlib.Omega.{arith}
 use lib.ListN.{length, get_or, length-set}
 use Rattle.bits.specs.Bits.{run, byte_of, bytes_of}
 use Rattle.units.specs.Answers.{memory}
-use Rattle.base64.specs.Base64.{sextet}
+use Rattle.base64_rules.specs.Base64.{sextet}
 use Rattle.text.specs.Text.{before, text_bit}
-use Rattle.base64.proofs.AllOf.{all_each}
-use Rattle.base64.proofs.Counts.{before_le}
-use Rattle.base64.proofs.Padding.{padding_le}
-use Rattle.base64.proofs.Fill.{fill_none, fill_same, fill_more}
-use Rattle.base64.proofs.TextBits.{byte_cut}
+use Rattle.base64_rules.proofs.AllOf.{all_each}
+use Rattle.base64_rules.proofs.Counts.{before_le}
+use Rattle.base64_rules.proofs.Padding.{padding_le}
+use Rattle.base64_rules.proofs.Fill.{fill_none, fill_same, fill_more}
+use Rattle.base64_rules.proofs.TextBits.{byte_cut}
 use Rattle.text.proofs.Groups.{bits, passed, refused}
 use Rattle.text.proofs.decode.put_groups.Statement.{statement}
 use Rattle.text.proofs.decode.put_groups.Tie as tie

@@ -13,10 +13,10 @@ use Rattle.text.specs.Text.{before, text_bit, count, decoded, all_of}
 use Rattle.bits.specs.Bits.{bytes_of}
 use Rattle.bits.proofs.Bytes.{length_bytes_of}
 use Rattle.units.specs.declared.refusals.Written.TheVariants.{Count}
-use Rattle.base64.proofs.Counts.{count_is}
-use Rattle.base64.proofs.Fill.{filled}
-use Rattle.base64.proofs.Padding.{padding_fits}
-use Rattle.base64.proofs.Spare.{spare_after}
+use Rattle.base64_rules.proofs.Counts.{count_is}
+use Rattle.base64_rules.proofs.Fill.{filled}
+use Rattle.base64_rules.proofs.Padding.{padding_fits}
+use Rattle.base64_rules.proofs.Spare.{spare_after}
 use Rattle.text.proofs.Rows.{Accepted, reads_as, row_letter, row_spare, put_there, put_nowhere}
 use Rattle.text.proofs.decode.read_in.Statement.{statement}
 use Rattle.text.proofs.decode.read_in.Tie as tie

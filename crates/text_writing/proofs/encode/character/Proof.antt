@@ -3,8 +3,8 @@
 use mathlib.Core.Path.{◌≡◌, sym, ap}
 use Prim.Native.Nat.{ℕ}
 use native.Mathlib.Omega.{arith}
-use Rattle.base64.specs.Base64.{character}
-use Rattle.base64.proofs.Arms.{past}
+use Rattle.base64_rules.specs.Base64.{character}
+use Rattle.base64_rules.proofs.Arms.{past}
 use Rattle.text_writing.proofs.encode.character.Statement.{statement}
 use Rattle.text_writing.proofs.encode.character.Tie as tie
 

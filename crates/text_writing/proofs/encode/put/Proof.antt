@@ -9,8 +9,8 @@ use lib.ListN.{length}
 use lib.Seq.{sets}
 use Rattle.bits.specs.Bits.{run}
 use Rattle.units.specs.Answers.{memory}
-use Rattle.base64.specs.Base64.{character_at, text_length, encoded}
-use Rattle.base64.proofs.Fill.{fill_same}
+use Rattle.base64_rules.specs.Base64.{character_at, text_length, encoded}
+use Rattle.base64_rules.proofs.Fill.{fill_same}
 use Rattle.text_writing.proofs.LastFirst.{front_filled}
 use Rattle.text_writing.proofs.encode.put.Statement.{statement}
 use Rattle.text_writing.proofs.encode.put.Tie as tie

@@ -7,8 +7,8 @@ use native.Mathlib.Omega.{arith}
 use lib.ListN.{length, length-set}
 use Rattle.bits.specs.Bits.{run}
 use Rattle.units.specs.Answers.{memory}
-use Rattle.base64.specs.Base64.{character_at}
-use Rattle.base64.proofs.Fill.{fill_none, fill_same, fill_more}
+use Rattle.base64_rules.specs.Base64.{character_at}
+use Rattle.base64_rules.proofs.Fill.{fill_none, fill_same, fill_more}
 use Rattle.text_writing.proofs.Letters.{first_letter, second_letter, third_letter, fourth_letter}
 use Rattle.text_writing.proofs.encode.put_groups.Statement.{statement}
 use Rattle.text_writing.proofs.encode.put_groups.Tie as tie

@@ -7,8 +7,8 @@ use Prim.Native.Nat.{ℕ, ◌+◌, ◌*◌}
 use native.Mathlib.Omega.{arith}
 use lib.Dec.{ltb}
 use lib.ListN.{length-set}
-use Rattle.base64.specs.Base64.{character_at}
-use Rattle.base64.proofs.TextBits.{character_at_past}
+use Rattle.base64_rules.specs.Base64.{character_at}
+use Rattle.base64_rules.proofs.TextBits.{character_at_past}
 use Rattle.text_writing.proofs.LastFirst.{four_stored}
 use Rattle.text_writing.proofs.Letters.{first_letter, second_letter, last_letter}
 use Rattle.text_writing.proofs.encode.put_last.Statement.{statement}
