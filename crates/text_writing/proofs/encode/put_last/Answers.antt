@@ -1,0 +1,26 @@
+-- `text_writing::encode::put_last` meets its contract: each of the four stores is of the character that the definition has there.
+-- Assumes nothing.
+use mathlib.Core.Path.{sym, ap, ◌∙◌}
+use mathlib.Core.Bool.{cond}
+use Prim.Native.Nat.{ℕ, ◌+◌, ◌*◌}
+use native.Mathlib.Omega.{arith}
+use lib.Dec.{ltb}
+use Rattle.base64_rules.specs.Base64.{character_at}
+use Rattle.base64_rules.proofs.TextBits.{character_at_past}
+use Rattle.text_writing.proofs.LastFirst.{four_stored}
+use Rattle.text_writing.proofs.Letters.{first_letter, second_letter, last_letter}
+use Rattle.text_writing.proofs.encode.put_last.Goals as goal
+
+pub returns : goal.returns
+returns c =
+    let start = c.args in
+    let s = start.section.now in
+    let q = start.whole in
+    let a = c.there-a.ensures in
+    let b = c.byte-b.ensures in
+    four_stored (character_at s) _ (4 * q) _ _ _ _
+    (c.character-first.ensures ∙ first_letter s q _ a.0 a.1 (omega arith))
+    (c.character-second.ensures ∙ second_letter s q _ _ a.0 b.0 a.1 b.1 (omega arith))
+    (c.padded.ensures ∙ ap (λ (x : ℕ). cond (ltb 1 start.left) x 61) c.character-third.ensures
+    ∙ last_letter s q _ start.left b.0 b.1 (omega arith) (omega arith))
+    (sym (character_at_past s (4 * q + 3) (omega arith)))
