@@ -24,8 +24,7 @@ pub loop-next-preserved : goal.loop-next-preserved
 loop-next-preserved c =
     let step-on : Stepped c.args.s.now c.loop-next.cursor c.in-Descriptor.field-0 c.in-Descriptor.next = stepped _ _ _ _ (sym c.step.ensures ∙ c.in-Descriptor.is) in
     let a = c.args in
-    let on = step-on in
-(
+    let on = step-on in (
       on.same_end ∙ c.loop-next.invariant.0,
       omega (arith, on.inside, c.loop-next.invariant.0),
       λ env.
