@@ -15,8 +15,7 @@ use Rattle.sheet_reading.proofs.numbers.Goals as goal
 pub returns-then-out-n : goal.returns-then-out-n
 returns-then-out-n c =
     let there : Laid c.args.section.now c.args.widths.now c.plan-fields.result c.plan-fields.new.widths = laid_out _ _ c.requires.0 c.requires.1 c.requires.2 c.plan-fields.ensures in
-    let s = start c in
-    no_room s.args.section.now s.args.out.now s.pre.0 (omega (arith, (there).number, c.if-out-n.true))
+    no_room c.args.section.now c.args.out.now c.requires.0 (omega (arith, (there).number, c.if-out-n.true))
 
 pub read_fields-requires : goal.read_fields-requires
 read_fields-requires c =
@@ -33,8 +32,7 @@ read_fields-requires-2 c =
     let if1 = c.if-out-n in
     let widths = c.widths-1 in
     let laid = there in
-    let s = start c in
-    (omega (arith, laid.enough), omega (arith, laid.inside, widths.given), omega (arith, if1.false, out.given), omega (arith, laid.inside, s.pre.2), omega arith)
+    (omega (arith, laid.enough), omega (arith, laid.inside, widths.given), omega (arith, if1.false, out.given), omega (arith, laid.inside, c.requires.2), omega arith)
 
 pub returns : goal.returns
 returns c =
@@ -45,11 +43,10 @@ returns c =
     let widths = c.widths-1 in
     let plan = c.plan-fields in
     let laid = there in
-    let s = start c in
-    let written = sheet_written s.args.section.now s.args.out.now s.pre.0 (omega (arith, laid.number, if1.false)) in (
+    let written = sheet_written c.args.section.now c.args.out.now c.requires.0 (omega (arith, laid.number, if1.false)) in (
       ap Count laid.number ∙ written.0,
       read-fields2.ensures
-          ∙ ap (λ (m : List ℕ). sets m 4 (read_all s.args.section.now 24 (take (plan.result.number - 4) (drop 4 plan.new.1.1.0)))) read-fields.ensures
-          ∙ sheet_put s.args.section.now s.args.widths.now s.args.out.now (omega (arith, laid.enough, laid.inside, widths.given)) laid if1.false
+          ∙ ap (λ (m : List ℕ). sets m 4 (read_all c.args.section.now 24 (take (plan.result.number - 4) (drop 4 plan.new.widths)))) read-fields.ensures
+          ∙ sheet_put c.args.section.now c.args.widths.now c.args.out.now (omega (arith, laid.enough, laid.inside, widths.given)) laid if1.false
           ∙ written.1,
     )
