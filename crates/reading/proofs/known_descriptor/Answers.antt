@@ -1,0 +1,16 @@
+-- `reading::known_descriptor` meets its contract: an open section is asked, any other is refused.
+-- Assumes nothing.
+use mathlib.Core.Path.{sym, ◌∙◌}
+use Rattle.reading.specs.Reading.{known_descriptor}
+use Rattle.opening.proofs.Asked.{when_open, when_refused}
+use Rattle.reading.proofs.known_descriptor.Goals as goal
+
+pub returns-in-Open : goal.returns-in-Open
+unfolding known_descriptor
+returns-in-Open c =
+    c.known_descriptor.ensures
+    ∙ sym (when_open _ _ _ (sym c.«open».ensures ∙ c.in-Open.is))
+
+pub returns-in-Refused : goal.returns-in-Refused
+unfolding known_descriptor
+returns-in-Refused c = sym (when_refused _ _ _ (sym c.«open».ensures ∙ c.in-Refused.is))
