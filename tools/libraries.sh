@@ -16,12 +16,31 @@ below() { # CRATE
     done
 }
 
+# A sum of all that the proofs read.
+tree_sum() {
+    {
+        rt version
+        cat crates.txt
+        find crates \( -name out -o -name must-fail \) -prune -o -type f -print0 | LC_ALL=C sort -z | xargs -0 sha256sum
+    } | sha256sum
+}
+
+# `rt ci` leaves the libraries and programs that it proved, where there were none before; .ci/run then writes the sum of what was
+# read into target/after-ci. Whether they are still those of this tree.
+is_after_ci() { [ -f target/after-ci ] && [ "$(cat target/after-ci)" = "$(tree_sum)" ]; }
+
 # Proves and builds what these crates depend on, where that is not done yet.
 build_libraries() { # CRATE..
-    local crate library
-    for library in $(for crate in "$@"; do libraries_of "$crate"; done | tr ' ' '\n' | sort -u); do
-        [ ! -d "crates/$library" ] || (cd "crates/$library" && rt lib) || return
-    done
+    local library libraries lacking=
+    libraries=$(for crate in "$@"; do below "$crate"; done | sort -u)
+    for library in $libraries; do [ -d "crates/$library/out/rlib/$library.rlib" ] || lacking=yes; done
+    [ -n "$lacking" ] || ! is_after_ci || return 0
+    for library in $libraries; do (cd "crates/$library" && rt lib) || return; done
+}
+
+# Proves and builds a program, where that is not done yet, as crates/PROGRAM/out/PROGRAM: it must end where its input does.
+build_program() { # PROGRAM
+    [ -x "crates/$1/out/$1" ] && is_after_ci || (cd "crates/$1" && rt run </dev/null)
 }
 
 # The words, a line each, by which rattle checks or builds a crate in its folder.
