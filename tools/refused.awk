@@ -1,6 +1,7 @@
 # Judges the wrong readers of one edit, for tools/refused, which says what an edit is:
-#     awk -v crate=CRATE -v label=LABEL -f tools/refused.awk kind=source FILE.. kind=edit EDIT kind=log [tried=1 LOG]
-# Prints a line for each wrong reader, which starts with 'ok' or 'FAILED', and 'FAILED' for a change that has none.
+#     awk -v crate=CRATE -v label=LABEL [-v names=1] -f tools/refused.awk kind=source FILE.. kind=edit EDIT kind=log [tried=1 LOG]
+# Prints a line for each wrong reader, which starts with 'ok' or 'FAILED', and 'FAILED' for a change that has none. With names=1
+# it prints the functions whose proofs are to refuse the edit, or nothing if a law's is.
 
 BEGIN { readers = 0 }
 
@@ -14,6 +15,7 @@ kind == "source" {
         gsub("/", "::", module)
         module = module == "lib" || module == "main" ? "" : module "::"
         type = inside = ""
+        attributes = 0
     }
     if (inside == "" && /^ *(pub(\(crate\))? )?(extern "C" )?fn [a-z]/) {
         indent = $0
@@ -29,7 +31,11 @@ kind == "source" {
         type = ""
     line[path, FNR] = $0
     lines[path] = FNR
-    function_at[path, FNR] = inside
+    function_at[path, FNR] = about[path, FNR] = inside
+    if (inside == "" && /^ *#\[/) attributes++
+    else {
+        while (attributes) about[path, FNR - attributes--] = inside
+    }
     part_at[path, FNR] = part
     if ($0 == indent "{" || part == "contract" && / \{$/) part = "body"
     if ($0 == indent "}") inside = ""
@@ -77,67 +83,67 @@ kind == "edit" && /^new:/ && hit {
     line[path, hit] = substr(line[path, hit], 1, at - 1) new substr(line[path, hit], at + length(old))
 }
 
-# Whether a message is of a failed fact: two sides differ, a goal does not follow, an equation says nothing of it, or
-# equations leave a part of it open. Other messages only say that a proof no longer fits the code: no such goal, no
+# Whether a message is of a failed fact: two sides differ, a goal does not follow or is not found, an equation says nothing of
+# it, or equations leave a part of it open. Other messages only say that a proof no longer fits the code: no such goal, no
 # such field, a fact that is cited was not admitted.
 function is_fact(message) {
+    if (message ~ /(has no `|is not in scope|was not admitted|that can be named)/) return 0
     return message ~ /the two (types|values|sides|indices) (are|differ|first differ) / || message ~ /^expected type / ||
-        message ~ /^`(omega|search)`: (the goal does not follow|no proof of) / ||
-        message ~ /^`rw`: no occurrence of / || message ~ /^give a proof of that as the last argument, `rw / ||
-        message ~ /^list the missing equation /
-}
-
-# The crates with a function that is a table, which has an arm for each number.
-BEGIN {
-    tables["base64_rules"]
-    tables["crc_table_0"]
-    tables["crc_table_1"]
-    tables["crc_table_2"]
-    tables["crc_table_3"]
-    tables["text_writing"]
-}
-
-# What was expected of an arm whose error is on the line before.
-kind == "log" && arm_of != "" {
-    if (/^  expected type `/ && index($0, promise)) refused[arm_of] = 1
-    arm_of = ""
+        message ~ /^`(omega|search|grind|cc|simp|assumption)`: / || message ~ /^`rw`: no occurrence of / ||
+        message ~ /^give a proof of that as the last argument, `rw / || message ~ /^list the missing equation /
 }
 
 # An error of the proof of a function, or of a law.
-kind == "log" && /\/proofs\/[^ ]*\.antt:[0-9]+:[0-9]+: error: `/ {
+kind == "log" && /^(\.\/)?proofs\/[^ ]*\.antt:[0-9]+:[0-9]+: error: `/ {
     at = index($0, ": error: `")
     message = substr($0, at + 10)
     file = substr($0, 1, at - 1)
-    sub(/.*\/proofs\//, "", file)
+    sub(/^(\.\/)?proofs\//, "", file)
     sub(/:[0-9]+:[0-9]+$/, "", file)
     fact = substr(message, 1, index(message, "`: ") - 1)
     message = substr(message, length(fact) + 4)
     if (!is_fact(message)) next
-    if (!sub(/\/Proof\.antt$/, "", file)) {
+    written = file
+    if (!sub(/\/(Answers|Invariants|Proof)\.antt$/, "", file)) {
         sub(/\.antt$/, "", file)
         refused[file "." fact] = 1
         next
     }
     spec = file
     sub(/.*\//, "", spec)
-    gsub("_", "-", spec)
-    promise = file
-    gsub("/", ".", promise)
-    promise = ".proofs." promise ".Reads.Post "
     gsub("/", "::", file)
-    # The last part of a proof, FUNCTION-spec, fits its facts to the shape of the code and does not count. A table is the
-    # exception: its facts, an arm each, stand there without names. Where one of them fails, what is expected is the
-    # promise itself; where the error shows how two types differ, its next line says so.
-    if (fact == spec "-spec" && !index(message, promise)) {
-        if (crate in tables) arm_of = file
-        next
-    }
-    if (fact == spec "-spec" && !(crate in tables)) next
+    # The last part of a proof by hand, FUNCTION_spec, fits its facts to the shape of the code and does not count.
+    if (written ~ /Proof\.antt$/ && fact == spec "_spec") next
     refused[file] = 1
 }
 
-# A function that needs no proof of its own as long as a search closes its facts.
-kind == "log" && /^fn .*: no proof: .*`search` does not close `/ {
+# Whether a function's proof has an answer of its own for a goal.
+function is_answered(place, goal,    file, text) {
+    file = place
+    gsub("::", "/", file)
+    file = "crates/" crate "/proofs/" file "/Answers.antt"
+    if (!(file in read)) {
+        read[file] = 1
+        while ((getline text < file) > 0) if (text ~ /^(pub )?[^ ]+ : /) {
+            sub(/^pub /, "", text)
+            sub(/ .*/, "", text)
+            answers[file, text] = 1
+        }
+        close(file)
+    }
+    return (file, goal) in answers
+}
+
+# A goal that is false at values which the facts known there allow, or one that the tactics do not find and that has no answer.
+kind == "log" && /^note: src\/[^ ]*\.rt:[0-9]+:[0-9]+: it is not proved that / {
+    split(substr($2, 1, length($2) - 1), at_place, ":")
+    place = about[at_place[1], at_place[2]]
+    goal = $0
+    sub(/^.* \(`/, "", goal)
+    sub(/`\).*/, "", goal)
+    if (place != "" && (/; the facts known there allow values at which / || /`\)(;|$)/ && !is_answered(place, goal))) refused[place] = 1
+}
+kind == "log" && /^fn .*: no proof: .*`search` did not prove `/ {
     file = substr($2, length(crate) + 3)
     sub(/:$/, "", file)
     refused[file] = 1
@@ -160,6 +166,17 @@ function fault(r,    i, n, part) {
 }
 
 END {
+    if (names) {
+        for (r = 1; r <= readers; r++) {
+            n = split(r in refuser ? refuser[r] : what[r], proof, ", ")
+            for (i = 1; i <= n; i++) {
+                if (index(proof[i], ".")) exit
+                asked[proof[i]] = 1
+            }
+        }
+        for (i in asked) print crate "::" i
+        exit
+    }
     if (!readers || places[0]) fails("a change has no wrong reader above it")
     for (r = 1; r <= readers; r++) {
         wrong = fault(r)

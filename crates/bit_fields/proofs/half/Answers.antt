@@ -11,9 +11,8 @@ next : {a b x y : ℕ} → a ≡ b → x ≡ y → a * 256 + x ≡ b * 256 + y
 next e f = ap₂ (λ (a x : ℕ). a * 256 + x) e f
 
 pub returns : goal.returns
-returns c =
-     (
-      next (next (next c.wide.ensures.0 c.wide-2.ensures.0) c.wide-3.ensures.0) c.wide-4.ensures.0
-          ∙ sym (num_word c.args.s.now (λ k. (c.type_inv.s k).fits) c.args.i),
-      omega arith,
-    )
+returns c = (
+  next (next (next c.wide.ensures.0 c.wide-2.ensures.0) c.wide-3.ensures.0) c.wide-4.ensures.0
+      ∙ sym (num_word c.args.s.now (λ k. (c.type_inv.s k).fits) c.args.i),
+  omega arith,
+)

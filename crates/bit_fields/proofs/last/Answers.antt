@@ -1,7 +1,7 @@
 -- `bit_fields::last` meets its contract. The loop's invariant: the word is the number of the bits passed.
 -- Assumes nothing.
 use mathlib.Core.Path.{◌≡◌, sym, ap, ap₂, ◌∙◌}
-use Prim.Native.Nat.{ℕ, ◌-◌, ◌*◌, ◌+◌}
+use Prim.Native.Nat.{ℕ, ◌*◌, ◌+◌}
 use native.Mathlib.Omega.{arith}
 use Rattle.bit_fields.specs.Bits.{bit, num}
 use Rattle.bit_fields.proofs.Num.{num_zero}

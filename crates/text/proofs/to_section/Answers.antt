@@ -1,5 +1,6 @@
 -- `text::to_section` meets its contract: row 12 is told by the length, and either memory has room for three bytes a group.
 -- Assumes nothing.
+use native.Mathlib.Omega.{arith}
 use Rattle.text.proofs.Rows.{reads_as, row_uneven, row_long}
 use Rattle.text.proofs.to_section.Goals as goal
 
@@ -11,4 +12,4 @@ returns-then-n-ne0 c =
 pub returns-then-n-gt-MOST_TEXT : goal.returns-then-n-gt-MOST_TEXT
 returns-then-n-gt-MOST_TEXT c =
     let start = c.args in
-    reads_as start.text.now start.out.now 12 (row_long start.text.now _ c.if-n-gt-MOST_TEXT.true)
+    reads_as start.text.now start.out.now 12 (row_long start.text.now _ (omega arith))
