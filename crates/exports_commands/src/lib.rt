@@ -2,7 +2,7 @@
 // answer is the count of numbers written, or 2^63 plus the refusal's number.
 #![tactic(auto)]
 
-mod commands;
 mod events;
 mod lists;
 mod parts;
+mod section_command;
