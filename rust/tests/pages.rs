@@ -33,7 +33,9 @@ fn crates() -> Vec<String> {
     let list = text("crates.txt");
     let lines = list.lines().filter(|line| !line.starts_with('#'));
     let names = lines.filter_map(|line| line.split_once(':'));
-    names.map(|(name, _)| name.to_string()).collect()
+    names
+        .map(|(name, _)| name.trim_end_matches(" staticlib").to_string())
+        .collect()
 }
 
 /// What stands between backquotes.

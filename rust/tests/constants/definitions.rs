@@ -1,5 +1,5 @@
 //! The definitions in `specs/` by which an answer is a list of numbers: those of every crate whose names end in
-//! `Numbers`. What is not of their form is a failure.
+//! `_numbers`. What is not of their form is a failure.
 
 use std::collections::BTreeMap;
 
@@ -27,7 +27,8 @@ pub type Answers = BTreeMap<String, Vec<Case>>;
 pub fn answers() -> Answers {
     let mut found = Answers::new();
     for [name, patterns, body] in equations().iter() {
-        if !name.ends_with("Numbers") {
+        // the table of a cue's avail numbers is none of them
+        if !name.ends_with("_numbers") || name == "avail_numbers" {
             continue;
         }
         let case = patterns
@@ -35,7 +36,7 @@ pub fn answers() -> Answers {
             .find(|word| word.contains('.'));
         let case = case.unwrap_or("").to_string();
         if case.ends_with(".Refused") {
-            assert_eq!(body, "refused (numberOf r)", "{name}");
+            assert_eq!(body, "refused (number_of r)", "{name}");
             continue;
         }
         let list = elements(&tokens(body));
@@ -124,7 +125,7 @@ fn elements(tokens: &[String]) -> Vec<Element> {
         ["[]"] => Vec::new(),
         ["(", .., ")"] => elements(&tokens[1..tokens.len() - 1]),
         ["these", ..] => elements(&tokens[1..]),
-        [name, ..] if name.ends_with("Numbers") => vec![Element::Part(name.to_string())],
+        [name, ..] if name.ends_with("_numbers") => vec![Element::Part(name.to_string())],
         _ => panic!("no list: {tokens:?}"),
     }
 }
@@ -133,23 +134,20 @@ fn elements(tokens: &[String]) -> Vec<Element> {
 fn element(tokens: &[String]) -> Element {
     match words(tokens)[..] {
         ["(", .., ")"] => element(&tokens[1..tokens.len() - 1]),
-        ["flagNumber" | "heldNumber", ..] => element(&tokens[1..]),
+        ["flag_number" | "held_number", ..] => element(&tokens[1..]),
         [number] if number.parse::<u64>().is_ok() => Element::Number(number.parse().unwrap()),
-        [name, ref fields @ ..] => {
+        [value] => {
+            let mut parts = value.split('.');
+            let name = parts.next().unwrap_or("");
             assert!(
-                name.chars().all(|c| c.is_ascii_lowercase()),
+                !name.is_empty() && name.chars().all(|c| c.is_ascii_lowercase()),
                 "no name: {tokens:?}"
             );
-            assert!(
-                fields.iter().all(|field| field.starts_with('.')),
-                "no fields: {tokens:?}"
-            );
-            let named = fields
-                .iter()
-                .rev()
-                .find_map(|field| field.strip_prefix(".«")?.strip_suffix('»'));
+            // the fields of a value, of which the last with a name is told; `0` is the number in a value of one field
+            let named = parts.rev().find(|field| *field != "0");
             Element::Value(named.map(str::to_string))
         }
+        [_, ..] => panic!("no element: {tokens:?}"),
         [] => panic!("an element is missing"),
     }
 }

@@ -48,11 +48,11 @@ fn limits_defined() -> BTreeMap<String, String> {
     put(
         &mut defined,
         "TURN".to_string(),
-        longest(&answers, "turnNumbers"),
+        longest(&answers, "turn_numbers"),
     );
     defined.insert(
         "LINE_TOO_LONG".to_string(),
-        value_of("heldNumber Held.TooLong"),
+        value_of("held_number Held.TooLong"),
     );
     let law = "pub short : (line : Line) → length (spelled line) ≤ ";
     defined.insert("LONGEST_LINE".to_string(), stated(law));
@@ -86,7 +86,7 @@ fn limits_of_the_page() {
     let defined = limits_defined();
     let limits = ["LONGEST_TEXT", "LINE_TOO_LONG", "LONGEST_LINE", "TURN"];
     let limits = limits.map(|name| &defined[name][..]);
-    let room = value_of("numberOf Room");
+    let room = value_of("number_of Room");
     assert_eq!(told, limits.into_iter().chain([&room[..], "0"]).collect());
 }
 

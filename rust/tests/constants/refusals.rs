@@ -8,10 +8,10 @@ use crate::source::{files, read, text};
 use crate::{HEADER, READINGS};
 use timpanimist::Refusal;
 
-/// The table's names and numbers, as `numberOf` has them.
+/// The table's names and numbers, as `number_of` has them.
 fn refusals_defined() -> BTreeMap<String, String> {
     let equations = equations().into_iter();
-    let rows = equations.filter(|[name, _, _]| name == "numberOf");
+    let rows = equations.filter(|[name, _, _]| name == "number_of");
     rows.map(|[_, refusal, number]| (refusal.to_uppercase(), number))
         .collect()
 }
@@ -68,7 +68,7 @@ fn names_and_words() {
 /// A refusal is marked by the same bit everywhere.
 #[test]
 fn mark_of_a_refusal() {
-    assert_eq!(value_of("wire (Refused r)"), "2 ^ 63 + numberOf r");
+    assert_eq!(value_of("wire (Refused r)"), "2 ^ 63 + number_of r");
     assert!(read(HEADER).contains("return answer >> 63 ? (uint32_t)answer : 0;"));
     assert!(read("rust/src/refusal.rs").contains("const REFUSED: u64 = 1 << 63;"));
     assert!(text(READINGS).contains("or 2^63 plus the refusal's number"));

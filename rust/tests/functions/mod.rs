@@ -37,7 +37,7 @@ pub fn exports() -> Functions {
             .skip(1)
             .map(|text| function(text, rattle))
             .collect();
-        let marked = text.matches("#[no_mangle]").count();
+        let marked = text.matches("#[unsafe(no_mangle)]").count();
         assert_eq!(functions.len(), marked, "functions and marks in {file}");
         found.extend(functions);
     }

@@ -29,7 +29,7 @@ pub fn read(file: &str) -> String {
     kept
 }
 
-/// The files of a folder that have this ending, and of those below it.
+/// The files of a folder that have this ending, and of those below it, but for what `rt` makes.
 pub fn files(folder: &str, ending: &str) -> Vec<String> {
     let entries =
         fs::read_dir(root().join(folder)).unwrap_or_else(|error| panic!("{folder}: {error}"));
@@ -40,7 +40,9 @@ pub fn files(folder: &str, ending: &str) -> Vec<String> {
             entry.file_name().expect("a name").to_string_lossy()
         );
         if entry.is_dir() {
-            found.extend(files(&name, ending));
+            if !name.ends_with("/out") {
+                found.extend(files(&name, ending));
+            }
         } else if entry.extension().is_some_and(|found| found == ending) {
             found.push(name);
         }

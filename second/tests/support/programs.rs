@@ -16,8 +16,7 @@ pub fn second() -> Command {
     piped(command)
 }
 
-/// The proved program, which TIMPANIMIST_TALLY names, or else `../tools/tally`, which runs it on any
-/// machine that has the toolchain.
+/// The proved program, which TIMPANIMIST_TALLY names, or else `../tools/tally`, which runs it.
 pub fn proved() -> Command {
     let package = Path::new(env!("CARGO_MANIFEST_DIR"));
     let named = std::env::var_os("TIMPANIMIST_TALLY").map(PathBuf::from);

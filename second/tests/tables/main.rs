@@ -23,25 +23,25 @@ use std::collections::BTreeSet;
 
 /// The structures that have a table on the page, by the names that they have there and in the grammar.
 const STRUCTURES: [(&str, &str); 12] = [
-    ("splice_info_section()", "splice-info-section"),
-    ("splice_schedule()", "splice-schedule"),
-    ("splice_insert()", "splice-insert"),
-    ("private_command()", "private-command"),
-    ("splice_time()", "splice-time"),
-    ("break_duration()", "break-duration"),
-    ("splice_descriptor()", "splice-descriptor"),
-    ("avail_descriptor()", "avail-descriptor"),
-    ("DTMF_descriptor()", "dtmf-descriptor"),
-    ("segmentation_descriptor()", "segmentation-descriptor"),
-    ("time_descriptor()", "time-descriptor"),
-    ("audio_descriptor()", "audio-descriptor"),
+    ("splice_info_section()", "splice_info_section"),
+    ("splice_schedule()", "splice_schedule"),
+    ("splice_insert()", "splice_insert"),
+    ("private_command()", "private_command"),
+    ("splice_time()", "splice_time"),
+    ("break_duration()", "break_duration"),
+    ("splice_descriptor()", "splice_descriptor"),
+    ("avail_descriptor()", "avail_descriptor"),
+    ("DTMF_descriptor()", "dtmf_descriptor"),
+    ("segmentation_descriptor()", "segmentation_descriptor"),
+    ("time_descriptor()", "time_descriptor"),
+    ("audio_descriptor()", "audio_descriptor"),
 ];
 
 /// What one line of the page stands for where it is a part of another table.
 fn on_the_page(name: &str) -> Option<&'static str> {
     match name {
-        "sized-command" => Some("the command"),
-        "splice-descriptor" => Some("the descriptors"),
+        "sized_command" => Some("the command"),
+        "splice_descriptor" => Some("the descriptors"),
         _ => {
             let known = STRUCTURES.iter().find(|(_, grammar)| *grammar == name);
             known.map(|(page, _)| *page)
@@ -78,7 +78,7 @@ fn expected(structure: &str, name: &str) -> Vec<Line> {
             lines.push(Line::Field(Row { name, bits }));
         }
         // under one heading with what an unknown command has
-        "private_command()" => lines.extend(of("sized-command").pop()),
+        "private_command()" => lines.extend(of("sized_command").pop()),
         "splice_descriptor()" => {
             // those of the known tags have headings of their own
             lines.retain(|line| matches!(line, Line::Field(_)));
@@ -116,11 +116,11 @@ fn by_value(table: &Table, name: &str) -> Vec<(u64, Option<&'static str>)> {
 
 #[test]
 fn the_page_has_the_types_and_the_tags() {
-    let section = table("splice-info-section");
+    let section = table("splice_info_section");
     let commands = section.last("command").expect("the commands");
     let types = by_value(commands, "splice_command_type");
     assert_eq!(page::types(), types);
-    let descriptors = section.last("known-descriptor");
+    let descriptors = section.last("known_descriptor");
     let tags = by_value(
         descriptors.expect("the descriptors"),
         "splice_descriptor_tag",
@@ -150,7 +150,7 @@ fn fields(section: &[u8]) -> Vec<(&'static str, usize, u64)> {
 fn the_second_program_reads_by_the_tables() {
     println!("seed {:#018x}", seed());
     let random = &mut Random::new(seed());
-    let table = table("splice-info-section");
+    let table = table("splice_info_section");
     let mut met = BTreeSet::new();
     for _ in 0..5_000 {
         let section = any_section(random, Size::Short).bytes;

@@ -141,7 +141,7 @@ fn part(tokens: &mut Tokens) -> Term {
 }
 
 fn plain(word: &str) -> Term {
-    let is_part_of_a_name = |c: char| c.is_ascii_alphanumeric() || c == '-';
+    let is_part_of_a_name = |c: char| c.is_ascii_alphanumeric() || c == '_';
     let quoted = word
         .strip_prefix('"')
         .and_then(|word| word.strip_suffix('"'));
