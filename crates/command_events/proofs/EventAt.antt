@@ -11,7 +11,7 @@ use lib.Dec.{eqb, ltb}
 use borrow.Author.Tests.{le-leb, eq-eqb, ne_eqb, le-ltb, lt-ltb}
 use Rattle.grammar.proofs.Readings.{reached_at}
 use Rattle.bits.specs.Bits.{bit, num}
-use Rattle.grammar.specs.Syntax.{field, reserved, is}
+use Rattle.grammar.specs.Syntax.{field, reserved}
 use Rattle.grammar.specs.Meaning.{Env, values, Reading, reached, again, read, breach, ends, end_of}
 use Rattle.grammar.specs.Tables.{break_duration, avail_numbers, avails, schedule_times, schedule_event, splice_schedule}
 use Rattle.grammar.specs.Traces.{Trace, trace_of}

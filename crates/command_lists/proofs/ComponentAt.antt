@@ -31,7 +31,7 @@ use Rattle.command_lists.specs.Places.{insert_component_at}
 use Rattle.command_reading.proofs.Said.{came, bounds, fits, by_table, trace_is}
 use Rattle.command_reading.proofs.Nothing.{none_of, type_alone}
 use Rattle.grammar.proofs.Firsts.{first_end}
-use Rattle.command_lists.proofs.Component.{Component, knowing, component_tells}
+use Rattle.command_lists.proofs.Component.{knowing, component_tells}
 use Rattle.command_lists.proofs.Components.{counted, one, Listed, Insert, insert_lists}
 
 -- where there is no command

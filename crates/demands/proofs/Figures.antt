@@ -8,7 +8,7 @@ use native.Mathlib.Omega.{arith}
 use lib.ListN.{length}
 use borrow.Author.Tests.{lt-ltb}
 use Rattle.bits.specs.Bits.{bit, num, run, bytes_of, byte_of}
-use Rattle.units.specs.Refusals.{first, or_else}
+use Rattle.units.specs.Refusals.{first}
 use Rattle.units.specs.declared.refusals.Refusal.{Refusal}
 use Rattle.text.specs.Text.{sextet, padding, before, text_bit, count, decoded, all_of, spare, read_row}
 use Rattle.crc.specs.Crc.{step, register, crc32}

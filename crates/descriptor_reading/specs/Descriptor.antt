@@ -12,7 +12,6 @@ use Rattle.segmentation_reading.specs.declared.answers.Mode.{Mode}
 use Rattle.segmentation_reading.specs.declared.answers.Delivery.{Delivery}
 use Rattle.segmentation_reading.specs.declared.answers.Duration.{Duration}
 use Rattle.segmentation_reading.specs.declared.answers.SubSegments.{SubSegments}
-use Rattle.segmentation_reading.specs.declared.answers.Segmentation.{Segmentation}
 use Rattle.descriptor_reading.specs.declared.answers.Descriptor.{Descriptor}
 use Rattle.descriptor_reading.specs.declared.answers.DtmfChar.{DtmfChar}
 use Rattle.descriptor_reading.specs.declared.answers.SegmentationComponent.{SegmentationComponent}

@@ -11,7 +11,7 @@ use lib.Dec.{eqb}
 use Rattle.bits.specs.Bits.{bit, num, field_of}
 use Rattle.bits.proofs.Within.{field_there}
 use Rattle.grammar.specs.Syntax.{Test, Prog, field, is, done, branch}
-use Rattle.grammar.specs.Meaning.{Env, value_of, values, bind, holds, read, ends, run}
+use Rattle.grammar.specs.Meaning.{Env, value_of, values, bind, holds, read, run}
 use Rattle.grammar.specs.Tables.{bytes, known_descriptor, splice_descriptor}
 use Rattle.grammar.specs.Traces.{Trace}
 use Rattle.grammar.proofs.Ends.{covers}

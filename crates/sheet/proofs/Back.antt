@@ -29,7 +29,7 @@ use Rattle.layout.proofs.Follows.{trace_widths}
 use Rattle.layout.proofs.Shape.{Thin, thin_append}
 use Rattle.section.specs.Accept.{the}
 use Rattle.sheet.specs.Sheet.{sheet_of, section_trace, room_for, plan_for, length_for, fitting, pairs, fields_between, filled, summed, section_of}
-use Rattle.sheet_reading.proofs.Trace.{Whole, length_numbers, first, sized, last, body, parts, sheet_numbers, sheet_length, body_length}
+use Rattle.sheet_reading.proofs.Trace.{Whole, length_numbers, first, last, body, parts, sheet_numbers, sheet_length, body_length}
 use Rattle.sheet_reading.proofs.Plans.{planned, from_sheet, plan_at, plan_number, widths_first, widths_last}
 
 -- ---- fields written one after another

@@ -2,7 +2,7 @@
 -- Assumes nothing.
 use mathlib.Core.Path.{◌≡◌, sym, ap, ◌∙◌}
 use mathlib.Core.Bool.{true, false}
-use Prim.Native.Nat.{ℕ, ◌-◌}
+use Prim.Native.Nat.{ℕ}
 use Rattle.bits.specs.Bits.{flag_of}
 use Rattle.units.specs.Clock.{ticks}
 use Rattle.command_reading.specs.Places.{break_at, avails_at, insert_at}

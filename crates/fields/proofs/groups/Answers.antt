@@ -1,8 +1,6 @@
 -- `fields::groups` meets its contract. The loop's invariant: the groups that are left, from here on, are all of them.
 -- Assumes nothing.
 use mathlib.Core.Path.{refl, sym, ◌∙◌}
-use mathlib.Core.Bool.{true}
-use Prim.Native.Nat.{◌-◌}
 use native.Mathlib.Omega.{arith}
 use borrow.Author.Rules.{rules}
 use Rattle.fields.proofs.Counts.{going_first, going_on, going_over}

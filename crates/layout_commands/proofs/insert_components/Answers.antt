@@ -1,9 +1,7 @@
 -- `layout_commands::insert_components` meets its contract. The loop's invariant: the components that are left, from here on, are all of them.
 -- Assumes nothing.
 use mathlib.Core.Path.{refl, sym}
-use Prim.Native.Nat.{◌-◌}
 use native.Mathlib.Omega.{arith}
-use Rattle.grammar.specs.Tables.{insert_component}
 use Rattle.fields.proofs.Counts.{going_first, going_on, going_over}
 use borrow.Author.Rules.{rules}
 use Rattle.layout_commands.proofs.insert_components.Goals as goal

@@ -1,9 +1,8 @@
 -- `layout_commands::splice_schedule` meets its contract. The loop's invariant: the events that are left, from here on, are all of them.
 -- Assumes nothing.
 use mathlib.Core.Path.{refl, sym}
-use Prim.Native.Nat.{◌-◌}
 use native.Mathlib.Omega.{arith}
-use Rattle.grammar.specs.Tables.{schedule_event, splice_schedule}
+use Rattle.grammar.specs.Tables.{splice_schedule}
 use Rattle.fields.specs.Fields.{Room}
 use Rattle.fields.proofs.Lays.{finished, pass, repeated}
 use Rattle.fields.proofs.Counts.{going_first, going_on, going_over}

@@ -1,10 +1,8 @@
 -- `layout_descriptors::splice_descriptors` meets its contract. The loop's invariant: the descriptors from here on are all of them.
 -- Assumes nothing.
 use mathlib.Core.Path.{refl, ◌∙◌}
-use Prim.Native.Nat.{◌-◌}
 use native.Mathlib.Omega.{arith}
 use borrow.Author.Rules.{rules}
-use Rattle.grammar.specs.Tables.{splice_descriptor}
 use Rattle.fields.proofs.Descents.{sweep_over, sweep_on_lem, sweep_last}
 use Rattle.layout_descriptors.proofs.splice_descriptors.Goals as goal
 
