@@ -98,7 +98,7 @@ returns-in_default-insert_component_at c =
     let goes_on : flag_of (section) 144 ≡ false = sym c.flag.ensures ∙ c.if-flag.false in
     let apart : flag_of (section) 153 ≡ false = sym c.flag-2.ensures ∙ c.if-flag-2.false in
     let few : number < field_of (section) 160 8 = omega (arith, c.read.ensures) in
-    let placed :  component_place (section) 21 (stop) (number) (field_of (section) 155 1) ≡ outcome c.insert_component_at.result = ap (component_place (section) 21 (stop) (number)) (sym c.read-splice_immediate_flag.ensures) ∙ sym c.insert_component_at.ensures in
+    let placed : component_place (section) 21 (stop) (number) (field_of (section) 155 1) ≡ outcome c.insert_component_at.result = ap (component_place (section) 21 (stop) (number)) (sym c.read-splice_immediate_flag.ensures) ∙ sym c.insert_component_at.ensures in
     somewhere (section) (stop) (number) (trace) (read-to) (is-insert) (goes_on) (apart) (few)
     (placed ∙ ap outcome c.in_default-insert_component_at.is)
 
@@ -114,8 +114,8 @@ insert_component-requires c =
     let goes_on : flag_of (section) 144 ≡ false = sym c.flag.ensures ∙ c.if-flag.false in
     let apart : flag_of (section) 153 ≡ false = sym c.flag-2.ensures ∙ c.if-flag-2.false in
     let few : number < field_of (section) 160 8 = omega (arith, c.read.ensures) in
-    let placed :  component_place (section) 21 (stop) (number) (field_of (section) 155 1) ≡ outcome c.insert_component_at.result = ap (component_place (section) 21 (stop) (number)) (sym c.read-splice_immediate_flag.ensures) ∙ sym c.insert_component_at.ensures in
-    let found : (at : ℕ) → c.insert_component_at.result ≡ Ended.At at → (at < length (section)) × (insert_component_at (section) at (flag_of (section) 155) ≡ insert_component_of (command_trace (section)) (number)) = λ at e.    at_place (section) (stop) (number) (trace) (read-to) (is-insert) (goes_on) (apart) (few) at
+    let placed : component_place (section) 21 (stop) (number) (field_of (section) 155 1) ≡ outcome c.insert_component_at.result = ap (component_place (section) 21 (stop) (number)) (sym c.read-splice_immediate_flag.ensures) ∙ sym c.insert_component_at.ensures in
+    let found : (at : ℕ) → c.insert_component_at.result ≡ Ended.At at → (at < length (section)) × (insert_component_at (section) at (flag_of (section) 155) ≡ insert_component_of (command_trace (section)) (number)) = λ at e. at_place (section) (stop) (number) (trace) (read-to) (is-insert) (goes_on) (apart) (few) at
     (placed ∙ ap outcome e) in
     (found _ c.in-At-insert_component_at.is).0
 
@@ -131,8 +131,8 @@ returns c =
     let goes_on : flag_of (section) 144 ≡ false = sym c.flag.ensures ∙ c.if-flag.false in
     let apart : flag_of (section) 153 ≡ false = sym c.flag-2.ensures ∙ c.if-flag-2.false in
     let few : number < field_of (section) 160 8 = omega (arith, c.read.ensures) in
-    let placed :  component_place (section) 21 (stop) (number) (field_of (section) 155 1) ≡ outcome c.insert_component_at.result = ap (component_place (section) 21 (stop) (number)) (sym c.read-splice_immediate_flag.ensures) ∙ sym c.insert_component_at.ensures in
-    let found : (at : ℕ) → c.insert_component_at.result ≡ Ended.At at → (at < length (section)) × (insert_component_at (section) at (flag_of (section) 155) ≡ insert_component_of (command_trace (section)) (number)) = λ at e.    at_place (section) (stop) (number) (trace) (read-to) (is-insert) (goes_on) (apart) (few) at
+    let placed : component_place (section) 21 (stop) (number) (field_of (section) 155 1) ≡ outcome c.insert_component_at.result = ap (component_place (section) 21 (stop) (number)) (sym c.read-splice_immediate_flag.ensures) ∙ sym c.insert_component_at.ensures in
+    let found : (at : ℕ) → c.insert_component_at.result ≡ Ended.At at → (at < length (section)) × (insert_component_at (section) at (flag_of (section) 155) ≡ insert_component_of (command_trace (section)) (number)) = λ at e. at_place (section) (stop) (number) (trace) (read-to) (is-insert) (goes_on) (apart) (few) at
     (placed ∙ ap outcome e) in
     c.insert_component.ensures
     ∙ ap (λ (v : ℕ). insert_component_at (section) c.in-At-insert_component_at.at (eqb v 1)) c.read-splice_immediate_flag.ensures

@@ -33,7 +33,7 @@ returns-then-not-is_sub_segmented c =
     let room-group : Room c.group-upid.result c.group-upid.new.widths = (group_in _ _ refl c.requires c.group-upid.ensures).1 in
     let room-groups : Room c.groups-types.result c.groups-types.new.widths = (groups_in _ _ _ refl (room-group) c.groups-types.ensures).1 in
     let room-group2 : Room c.group-rest.result c.group-rest.new.widths = (group_in _ _ refl (room-groups) c.group-rest.ensures).1 in
-    let up_to : (env : Env) (ρ : Plan) → ((e : Env) → is_among (value_of e "segmentation_type_id") sub_segmented ≡ c.is_sub_segmented.result → Lays subs e (source c.args.section.now c.args.sheet.now) c.args.end (plan c.group-rest.result c.group-rest.new.widths) ρ) → Lays segmentation_end env (source c.args.section.now c.args.sheet.now) c.args.end (plan c.args.p c.args.widths.now) ρ = λ env ρ h.    let is-sub-segmented = c.is_sub_segmented in
+    let up_to : (env : Env) (ρ : Plan) → ((e : Env) → is_among (value_of e "segmentation_type_id") sub_segmented ≡ c.is_sub_segmented.result → Lays subs e (source c.args.section.now c.args.sheet.now) c.args.end (plan c.group-rest.result c.group-rest.new.widths) ρ) → Lays segmentation_end env (source c.args.section.now c.args.sheet.now) c.args.end (plan c.args.p c.args.widths.now) ρ = λ env ρ h. let is-sub-segmented = c.is_sub_segmented in
     let group2 = (group_in _ _ refl (room-groups) c.group-rest.ensures).0 in
     let value2 = c.value-segmentation_type_id in
     let groups = (groups_in _ _ _ refl (room-group) c.groups-types.ensures).0 in
@@ -53,7 +53,7 @@ returns-then-end-rest c =
     let room-group : Room c.group-upid.result c.group-upid.new.widths = (group_in _ _ refl c.requires c.group-upid.ensures).1 in
     let room-groups : Room c.groups-types.result c.groups-types.new.widths = (groups_in _ _ _ refl (room-group) c.groups-types.ensures).1 in
     let room-group2 : Room c.group-rest.result c.group-rest.new.widths = (group_in _ _ refl (room-groups) c.group-rest.ensures).1 in
-    let up_to : (env : Env) (ρ : Plan) → ((e : Env) → is_among (value_of e "segmentation_type_id") sub_segmented ≡ c.is_sub_segmented.result → Lays subs e (source c.args.section.now c.args.sheet.now) c.args.end (plan c.group-rest.result c.group-rest.new.widths) ρ) → Lays segmentation_end env (source c.args.section.now c.args.sheet.now) c.args.end (plan c.args.p c.args.widths.now) ρ = λ env ρ h.    let is-sub-segmented = c.is_sub_segmented in
+    let up_to : (env : Env) (ρ : Plan) → ((e : Env) → is_among (value_of e "segmentation_type_id") sub_segmented ≡ c.is_sub_segmented.result → Lays subs e (source c.args.section.now c.args.sheet.now) c.args.end (plan c.group-rest.result c.group-rest.new.widths) ρ) → Lays segmentation_end env (source c.args.section.now c.args.sheet.now) c.args.end (plan c.args.p c.args.widths.now) ρ = λ env ρ h. let is-sub-segmented = c.is_sub_segmented in
     let group2 = (group_in _ _ refl (room-groups) c.group-rest.ensures).0 in
     let value2 = c.value-segmentation_type_id in
     let groups = (groups_in _ _ _ refl (room-group) c.groups-types.ensures).0 in
@@ -75,7 +75,7 @@ returns c =
     let room-groups : Room c.groups-types.result c.groups-types.new.widths = (groups_in _ _ _ refl (room-group) c.groups-types.ensures).1 in
     let room-group2 : Room c.group-rest.result c.group-rest.new.widths = (group_in _ _ refl (room-groups) c.group-rest.ensures).1 in
     let room-group3 : Room c.group.result c.group.new.widths = (group_in _ _ refl (room-group2) c.group.ensures).1 in
-    let up_to : (env : Env) (ρ : Plan) → ((e : Env) → is_among (value_of e "segmentation_type_id") sub_segmented ≡ c.is_sub_segmented.result → Lays subs e (source c.args.section.now c.args.sheet.now) c.args.end (plan c.group-rest.result c.group-rest.new.widths) ρ) → Lays segmentation_end env (source c.args.section.now c.args.sheet.now) c.args.end (plan c.args.p c.args.widths.now) ρ = λ env ρ h.    let is-sub-segmented = c.is_sub_segmented in
+    let up_to : (env : Env) (ρ : Plan) → ((e : Env) → is_among (value_of e "segmentation_type_id") sub_segmented ≡ c.is_sub_segmented.result → Lays subs e (source c.args.section.now c.args.sheet.now) c.args.end (plan c.group-rest.result c.group-rest.new.widths) ρ) → Lays segmentation_end env (source c.args.section.now c.args.sheet.now) c.args.end (plan c.args.p c.args.widths.now) ρ = λ env ρ h. let is-sub-segmented = c.is_sub_segmented in
     let group2 = (group_in _ _ refl (room-groups) c.group-rest.ensures).0 in
     let value2 = c.value-segmentation_type_id in
     let groups = (groups_in _ _ _ refl (room-group) c.groups-types.ensures).0 in

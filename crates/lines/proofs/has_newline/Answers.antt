@@ -22,11 +22,10 @@ loop-k-preserved c =
     let loop = c.loop-k in
     let start = c.args in
     let seen = newline_seen start.input.now start.at loop.k (omega arith) in
-    let not_seen = newline_not_seen start.input.now start.at loop.k (omega arith) in
-    (
+    let not_seen = newline_not_seen start.input.now start.at loop.k (omega arith) in (
       omega arith,
       elim c.if-input-at-eq10.branch [
-        then-input-at-eq10 w ↦ w.found-is ∙ seen w.if-input-at-eq10.true
+        | then-input-at-eq10 w ↦ w.found-is ∙ seen w.if-input-at-eq10.true
         | else-input-at-eq10 w ↦ w.found-is ∙ loop.invariant.1 ∙ not_seen w.if-input-at-eq10.false
       ],
     )

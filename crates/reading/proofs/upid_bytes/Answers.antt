@@ -17,8 +17,6 @@ overflow_add-end c =
     let within : c.in-Part.at + c.in-Part.length ≤ length c.args.section.now = part_within _ _ _ _ (sym c.upid.ensures ∙ c.in-Part.is) in
     omega (arith, within)
 
-
-
 pub returns : goal.returns
 unfolding part_of upid_bytes
 returns c =

@@ -58,7 +58,7 @@ returns-then-n-le256 c =
     let plan_for_lem : plan c.plan-fields.result c.plan-fields.new.widths ≡ plan_for (sheet) = c.plan-fields.ensures ∙ ap (plan_of [] (sheet)) c.requires.2 in
     let plan_at : c.plan-fields.result.at ≡ (plan_for (sheet)).at = ap (λ (π : Plan). π.at) (plan_for_lem) in
     let plan_number : c.plan-fields.result.number ≡ (plan_for (sheet)).number = ap (λ (π : Plan). π.number) (plan_for_lem) in
-    let fits : (z : ℕ) → z ≡ room_for (count) 256 4096 → take (count) (summed (count) (filled (sheet) (count) c.plan-fields.new.widths (replicate z 0))) ≡ section_of (sheet) = λ z e.    let n : ℕ = count in
+    let fits : (z : ℕ) → z ≡ room_for (count) 256 4096 → take (count) (summed (count) (filled (sheet) (count) c.plan-fields.new.widths (replicate z 0))) ≡ section_of (sheet) = λ z e. let n : ℕ = count in
     let at = plan_at in
     ap₂ (λ (π : Plan) (k : ℕ). take n (summed n (filled (sheet) n π.widths (replicate k 0)))) (plan_for_lem) e
     ∙ fit_made (sheet) n c.requires.0 c.requires.1 (omega (arith, at, c.if-fields-gt32736.false)) (sym (plan_number) ∙ c.if-fields-sheet.false)
@@ -95,7 +95,7 @@ returns c =
     let plan_for_lem : plan c.plan-fields.result c.plan-fields.new.widths ≡ plan_for (sheet) = c.plan-fields.ensures ∙ ap (plan_of [] (sheet)) c.requires.2 in
     let plan_at : c.plan-fields.result.at ≡ (plan_for (sheet)).at = ap (λ (π : Plan). π.at) (plan_for_lem) in
     let plan_number : c.plan-fields.result.number ≡ (plan_for (sheet)).number = ap (λ (π : Plan). π.number) (plan_for_lem) in
-    let fits : (z : ℕ) → z ≡ room_for (count) 256 4096 → take (count) (summed (count) (filled (sheet) (count) c.plan-fields.new.widths (replicate z 0))) ≡ section_of (sheet) = λ z e.    let n : ℕ = count in
+    let fits : (z : ℕ) → z ≡ room_for (count) 256 4096 → take (count) (summed (count) (filled (sheet) (count) c.plan-fields.new.widths (replicate z 0))) ≡ section_of (sheet) = λ z e. let n : ℕ = count in
     let at = plan_at in
     ap₂ (λ (π : Plan) (k : ℕ). take n (summed n (filled (sheet) n π.widths (replicate k 0)))) (plan_for_lem) e
     ∙ fit_made (sheet) n c.requires.0 c.requires.1 (omega (arith, at, c.if-fields-gt32736.false)) (sym (plan_number) ∙ c.if-fields-sheet.false)

@@ -30,7 +30,7 @@ returns-then-not-same_fields c =
     let rest : Bool = let n : ℕ = c.plan-fields.result.number in
     same (read_all c.args.section.now 24 (take (n - 4) (drop 4 c.plan-fields.new.widths))) (take (n - 4) (drop 4 c.args.sheet.now)) in
     let there : Laid c.args.section.now c.args.widths.now c.plan-fields.result c.plan-fields.new.widths = laid_out _ _ c.requires.0 c.requires.1 c.requires.2 c.plan-fields.ensures in
-    let parts : (b : Bool) → b ≡ same (read_all c.args.section.now 0 (take 4 c.plan-fields.new.widths)) (take 4 c.args.sheet.now) → is_sheet_of c.args.sheet.now c.args.section.now ≡ (b && rest) = λ b e.    let widths = c.widths-1 in
+    let parts : (b : Bool) → b ≡ same (read_all c.args.section.now 0 (take 4 c.plan-fields.new.widths)) (take 4 c.args.sheet.now) → is_sheet_of c.args.sheet.now c.args.section.now ≡ (b && rest) = λ b e. let widths = c.widths-1 in
     two_parts c.args.sheet.now c.args.section.now c.args.widths.now c.requires.0 (there)
     (omega (arith, (there).enough, (there).inside, widths.given)) c.if-n-sheet.false
     ∙ ap (λ (t : Bool). t && rest) (sym e) in
@@ -50,7 +50,7 @@ returns c =
     let rest : Bool = let n : ℕ = c.plan-fields.result.number in
     same (read_all c.args.section.now 24 (take (n - 4) (drop 4 c.plan-fields.new.widths))) (take (n - 4) (drop 4 c.args.sheet.now)) in
     let there : Laid c.args.section.now c.args.widths.now c.plan-fields.result c.plan-fields.new.widths = laid_out _ _ c.requires.0 c.requires.1 c.requires.2 c.plan-fields.ensures in
-    let parts : (b : Bool) → b ≡ same (read_all c.args.section.now 0 (take 4 c.plan-fields.new.widths)) (take 4 c.args.sheet.now) → is_sheet_of c.args.sheet.now c.args.section.now ≡ (b && rest) = λ b e.    let widths = c.widths-1 in
+    let parts : (b : Bool) → b ≡ same (read_all c.args.section.now 0 (take 4 c.plan-fields.new.widths)) (take 4 c.args.sheet.now) → is_sheet_of c.args.sheet.now c.args.section.now ≡ (b && rest) = λ b e. let widths = c.widths-1 in
     two_parts c.args.sheet.now c.args.section.now c.args.widths.now c.requires.0 (there)
     (omega (arith, (there).enough, (there).inside, widths.given)) c.if-n-sheet.false
     ∙ ap (λ (t : Bool). t && rest) (sym e) in

@@ -99,7 +99,7 @@ loop-at-preserved c =
     let fits = c.loop-at.invariant.0 in
     let is = c.is_uncancelled.ensures in
     elim c.if-is_uncancelled.branch [
-      then-is_uncancelled+then-opens w ↦
+      | then-is_uncancelled+then-opens w ↦
           subst (λ (x : Signal). Found x (left s (following s (place))) all) (λ i. record { opened = sym w.opened-is i; billed = sym w.billed-is i; longest = sym w.longest-is i })
           (with_break s (place) fits here (sym is ∙ w.if-is_uncancelled.true) g all found w.carried-measure.ensures w.longer-longest.ensures (sym w.opens.ensures ∙ w.if-opens.true) w.longer-billed.ensures)
       | then-is_uncancelled+else-opens w ↦
