@@ -1,9 +1,9 @@
 -- However the input comes, read by read, what the loop's functions promise of each is together what the tally says of the whole input.
 -- Assumes nothing.
 use mathlib.Core.Path.{◌≡◌, refl, sym, ap, ◌∙◌, subst}
-use mathlib.Core.List.{List, [], ◌++◌, append_assoc, append-nil}
+use mathlib.Core.List.{List, ◌++◌, append_assoc, append-nil}
 use Prim.Native.Nat.{ℕ}
-use lib.ListN.{length, take, drop}
+use lib.ListN.{take, drop}
 use lib.Seq.{take-add, take-length}
 use Rattle.units.specs.declared.refusals.Written.TheVariants.{Count}
 use Rattle.lines.specs.declared.answers.Held.{Held}
@@ -19,7 +19,8 @@ handed_as : {held : Held} {carry s s' a a' : List ℕ} → s ≡ s' → a ≡ a'
 handed_as {held} {carry} {s} {s'} {a} {a'} p q h = subst (λ (x : List ℕ). Handed held carry x a') p (subst (λ (x : List ℕ). Handed held carry s x) q h)
 
 -- a stream, and behind it what was taken of an input
-with_taken : {held held' : Held} {carry carry' input s answers more : List ℕ} {at : ℕ} → Handed held carry s answers → Taken held carry input at held' carry' more
+with_taken : {held : Held} {carry input : List ℕ} {held' : Held} {carry' s answers more : List ℕ} {at : ℕ} → Handed held carry s answers
+    → Taken held carry input at held' carry' more
     → Handed held' carry' (s ++ take at input) (answers ++ more)
 with_taken {s = s} {answers} h loop.none = handed_as (sym (append-nil s)) (sym (append-nil answers)) h
 with_taken {input = input} {s = s} {answers} h (loop.turn {at} {held₁} {carry₁} {answers = said} before out held₂ taken written e) =

@@ -1,12 +1,11 @@
 -- What the loop that reads and writes does with what a read brought, a write that fails aside.
 -- Assumes nothing.
-use Rattle.std.specs.Prelude.{ℕ, zero, suc, ◌+◌, ◌≤◌, ◌≡◌, List, [], ◌++◌, length, take, drop, ℤ, pos, negsuc}
+use Rattle.std.specs.Prelude.{ℕ, zero, suc, ◌+◌, ◌≤◌, ◌≡◌, List, [], ◌++◌, length, take, drop, min, Result, Ok, Err}
 use Rattle.spelling.specs.declared.Line.{Line}
 use Rattle.spelling.specs.Spelling.{spelled}
 use Rattle.lines.specs.declared.answers.Held.{Held}
 use Rattle.lines.specs.declared.answers.Turn.{Turn}
 use Rattle.lines.specs.Turns.{turn_answer, turn_carry, turn_out, last_said, last_out}
-use Rattle.io.specs.Counts.{clamp_len}
 use Rattle.tally.specs.declared.Said.{Said}
 use Rattle.tally.specs.declared.Step.{Step}
 use Rattle.tally.specs.declared.Next.{Next}
@@ -47,11 +46,11 @@ Ended held carry (Next.Holding held') = ⊥
 Ended held carry (Next.Ended n) = n ≡ length (last_said held carry)
 Ended held carry Next.Failed = Unit {0}
 
--- what is done by a read's answer: -1 where it failed, 0 at the end of the input, and otherwise how many bytes came
-abbrev pub Came : ℤ → Held → List ℕ → List ℕ → List ℕ → List ℕ → List ℕ → Next → Type 0
-Came (negsuc k) held input carry carry' out out' r = r ≡ Next.Failed
-Came (pos zero) held input carry carry' out out' r = Ended held carry r × (out' ≡ last_out held carry out)
-Came (pos (suc k)) held input carry carry' out out' r = Took held (take (clamp_len (pos (suc k)) (length input)) input) carry carry' r
+-- what is done by a read's answer: an error where it failed, 0 at the end of the input, and otherwise how many bytes came
+abbrev pub Came : {E : Type 0} → Result ℕ E → Held → List ℕ → List ℕ → List ℕ → List ℕ → List ℕ → Next → Type 0
+Came (Err e) held input carry carry' out out' r = r ≡ Next.Failed
+Came (Ok zero) held input carry carry' out out' r = Ended held carry r × (out' ≡ last_out held carry out)
+Came (Ok (suc k)) held input carry carry' out out' r = Took held (take (min (suc k) (length input)) input) carry carry' r
 
 -- the reads of a run so far, one after the other: what is held, the carry buffer, all that was read, and all answers
 pub data Ran : Held → List ℕ → List ℕ → List ℕ → Type 0 where
