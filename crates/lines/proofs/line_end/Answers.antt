@@ -3,6 +3,8 @@
 use mathlib.Core.Path.{◌≡◌, refl, sym, ap, ◌∙◌}
 use Prim.Native.Nat.{ℕ, suc, ◌+◌, ◌≤◌}
 use native.Mathlib.Omega.{arith}
+use mathlib.Core.Bool.{false}
+use lib.Dec.{ltb}
 use lib.ListN.{drop}
 use borrow.Author.Tests.{ltb-false}
 use Rattle.lines.specs.Turns.{line_length}
@@ -16,7 +18,8 @@ pub loop-at-preserved : goal.loop-at-preserved
 loop-at-preserved c =
     let at = c.loop-at.at in
     let input = c.args.input.now in
-    let none : 32 ≤ line_length (drop at input) = ltb-false _ _ (sym c.has_newline.ensures ∙ c.if-has_newline.false) in
+    let unseen : ltb (line_length (drop at input)) 32 ≡ false = cc in
+    let none : 32 ≤ line_length (drop at input) = ltb-false _ _ unseen in
     (omega arith, omega (arith, c.loop-at.invariant.1, goes_past input at 32 none))
 
 pub loop-at-2-init : goal.loop-at-2-init
