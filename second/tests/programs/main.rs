@@ -1,5 +1,4 @@
-//! Whole files through both programs, and how the proved program reads, writes and ends. It is a program
-//! for x86-64: on another machine it runs under the toolchain's emulator.
+//! Whole files through both programs, and how the proved program reads, writes and ends.
 
 mod arguments;
 mod ends;

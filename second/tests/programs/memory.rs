@@ -23,7 +23,7 @@ const ROUNDS: usize = 40;
 /// How long an answer may take.
 const PATIENCE: Duration = Duration::from_secs(60);
 
-/// The most memory that was in use since the start, in kilobytes; an emulator's is counted with its program's.
+/// The most memory that was in use since the start, in kilobytes.
 fn peak(child: &Child) -> u64 {
     let status = read_to_string(format!("/proc/{}/status", child.id())).expect("it runs");
     let line = status.lines().find(|line| line.starts_with("VmHWM:"));
