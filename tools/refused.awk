@@ -89,7 +89,7 @@ kind == "edit" && /^new:/ && hit {
 function is_fact(message) {
     if (message ~ /(has no `|is not in scope|was not admitted|that can be named)/) return 0
     return message ~ /the two (types|values|sides|indices) (are|differ|first differ) / || message ~ /^expected type / ||
-        message ~ /lands at index .* but the expected type / ||
+        message ~ /lands at index .* but the expected type / || message ~ /^computed as a goal is, one side reads / ||
         message ~ /^`(omega|search|grind|cc|simp|assumption)`: / || message ~ /^`rw`: no occurrence of / ||
         message ~ /^give a proof of that as the last argument, `rw / || message ~ /^list the missing equation /
 }
