@@ -8,8 +8,7 @@ use lib.ListN.{get_or}
 use lib.Dec.{eqb}
 use lib.Pow.{high}
 use Rattle.bits.specs.Bits.{bit, num}
-use Rattle.grammar.specs.declared.Ended.{Ended}
-use Rattle.grammar.specs.declared.Ended.TheVariants.{At, Broken}
+use Rattle.std.specs.Prelude.{Option, Some, None}
 use Rattle.grammar.specs.Ended.{outcome}
 use Rattle.grammar.specs.Meaning.{Outcome, breach, ends}
 use Rattle.bits.proofs.Num.{num_one, num_lt, num_split}
@@ -34,15 +33,15 @@ pub flag_test : (s : List ℕ) (at j k v w : ℕ) → j < 8 → k ≡ 8 * at + j
 flag_test s at j k v w h e q = ap (λ (x : ℕ). eqb x w) (flag s at j k h e ∙ q)
 
 -- an outcome is that of one answer
-pub outcome_only : (r q : Ended) → outcome r ≡ outcome q → r ≡ q
+pub outcome_only : (r q : Option ℕ) → outcome r ≡ outcome q → r ≡ q
 outcome_only r q e = sym (back r) ∙ ap byte e ∙ back q
   where
-    byte : Outcome → Ended
-    byte (breach n) = Broken
-    byte (ends k) = At (k / 8)
+    byte : Outcome → Option ℕ
+    byte (breach n) = None
+    byte (ends k) = Some (k / 8)
 
-    back : (r : Ended) → byte (outcome r) ≡ r
-    back (At n) =
+    back : (r : Option ℕ) → byte (outcome r) ≡ r
+    back (Some n) =
         let same : 8 * n / 8 ≡ n = omega arith in
-        ap At same
-    back Broken = refl
+        ap Some same
+    back None = refl

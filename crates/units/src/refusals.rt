@@ -1,27 +1,27 @@
-// The refusals of paper 01's table, and the answer of a function that writes into lent memory.
+// The refusals of paper 01's table.
 ghost use Rattle.std.specs.Prelude.{◌≡◌};
 ghost use Rattle.units.specs.Refusals.{number_of};
 
-// Why a call was refused, in the order of the table.
-#[derive(Clone, Copy)]
+// Why a call was refused, in the order of the table and under its number.
+#[derive(Clone, Copy, PartialEq, Eq)]
 pub enum Refusal {
-    Short,
-    Table,
-    Syntax,
-    Size,
-    Crc,
-    Version,
-    Crypt,
-    Command,
-    Loop,
-    Descriptor,
-    Room,
-    TextLen,
-    TextChar,
-    TextBits,
-    Sheet,
-    NotHere,
-    Sealed,
+    Short = 1,
+    Table = 2,
+    Syntax = 3,
+    Size = 4,
+    Crc = 5,
+    Version = 6,
+    Crypt = 7,
+    Command = 8,
+    Loop = 9,
+    Descriptor = 10,
+    Room = 11,
+    TextLen = 12,
+    TextChar = 13,
+    TextBits = 14,
+    Sheet = 15,
+    NotHere = 16,
+    Sealed = 17,
 }
 
 impl Refusal {
@@ -29,31 +29,6 @@ impl Refusal {
     pub fn number(self) -> u64
         ensures { result ≡ number_of self }
     {
-        match self {
-            Refusal::Short => 1,
-            Refusal::Table => 2,
-            Refusal::Syntax => 3,
-            Refusal::Size => 4,
-            Refusal::Crc => 5,
-            Refusal::Version => 6,
-            Refusal::Crypt => 7,
-            Refusal::Command => 8,
-            Refusal::Loop => 9,
-            Refusal::Descriptor => 10,
-            Refusal::Room => 11,
-            Refusal::TextLen => 12,
-            Refusal::TextChar => 13,
-            Refusal::TextBits => 14,
-            Refusal::Sheet => 15,
-            Refusal::NotHere => 16,
-            Refusal::Sealed => 17,
-        }
+        self as u64
     }
-}
-
-// The first numbers or bytes of the lent memory were written, that many; or nothing was.
-#[derive(Clone, Copy)]
-pub enum Written {
-    Count(usize),
-    Refused(Refusal),
 }
