@@ -3,13 +3,14 @@
 -- Assumes nothing.
 use mathlib.Core.Path.{◌≡◌, sym, ap, ap₂, ◌∙◌, subst}
 use mathlib.Core.Bool.{Bool, true, false, cond}
-use mathlib.Core.List.{List, [], ◌∷◌, ◌++◌}
-use Prim.Native.Nat.{ℕ, suc, ◌+◌, ◌≤◌}
+use mathlib.Core.List.{List, [], ◌∷◌, ◌++◌, append_assoc}
+use Prim.Native.Nat.{ℕ, suc, ◌+◌, ◌-◌, ◌≤◌}
 use native.Mathlib.Nat.{add-zero}
 use native.Mathlib.Omega.{arith}
 use lib.ListN.{length, set, take, drop, length-append}
 use lib.Seq.{sets, sets-eq, length-sets, length-take-le, take-append_seam}
 use borrow.Author.Tests.{leb-true}
+use borrow.Rule.Slice.PartMut.{put_mid, Post-is}
 use Rattle.units.specs.Put.{fits, put_into, Put}
 
 -- ---- by the room that there is
@@ -26,6 +27,13 @@ module _ (m : List ℕ) (i : ℕ) (ns : List ℕ) where
   -- what stands before and after them is as it was
   pub put_between : fits m i ns ≡ true → put_into m i ns ≡ take i m ++ ns ++ drop (i + length ns) m
   put_between h = all_put h ∙ sets-eq ns m i (leb-true (i + length ns) (length m) h)
+
+  -- a part of the list that they were copied over, where it has room for them
+  pub copied : {us : List ℕ} → us ≡ ns → i + length ns ≤ length m → put_mid i (i + length ns - i) m us ≡ sets m i ns
+  copied e h =
+      ap₂ (λ (us rest : List ℕ). take i m ++ (us ++ rest)) e (Post-is i (i + length ns) m (omega arith))
+      ∙ sym (append_assoc (take i m) ns (drop (i + length ns) m))
+      ∙ sym (sets-eq ns m i h)
 
 -- at the front: these, and then everything after them as it was
 pub at_front : (m ns : List ℕ) → fits m 0 ns ≡ true → put_into m 0 ns ≡ ns ++ drop (length ns) m

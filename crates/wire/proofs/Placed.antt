@@ -1,6 +1,6 @@
 -- Numbers put into a list from a place on: where there is room for them and where there is none; and, passed on, the laws of what was put.
 -- Assumes nothing.
-pub use Rattle.units.proofs.Put.{told, both, as_long, room, front, front_inside, front_count}
+pub use Rattle.units.proofs.Put.{copied, told, both, as_long, room, front, front_inside, front_count}
 use mathlib.Core.Path.{◌≡◌, sym, ap, ◌∙◌}
 use mathlib.Core.Bool.{Bool, true, false, cond}
 use mathlib.Core.List.{List}

@@ -1,7 +1,7 @@
 -- An answer's numbers in lent memory: what a function that writes them answers, and what the memory then holds.
 -- Assumes nothing.
-use Rattle.std.specs.Prelude.{ℕ, List, [], ◌∷◌, length, ltb}
-use Rattle.units.specs.declared.refusals.Written.{Written}
+use Rattle.std.specs.Prelude.{ℕ, List, [], ◌∷◌, length, ltb, Result}
+use Rattle.units.specs.declared.refusals.Refusal.{Refusal}
 use Rattle.units.specs.Refusals.{first, or_else}
 use Rattle.units.specs.Answers.{answer, memory}
 
@@ -23,7 +23,7 @@ unfoldable pub given_row : Numbers → List ℕ → ℕ
 given_row ns out = or_else ns.row (first ((ltb (length out) (length ns.list), 11) ∷ []))
 
 -- what a function that writes the answer into lent memory answers
-unfoldable pub given : Numbers → List ℕ → Written
+unfoldable pub given : Numbers → List ℕ → Result ℕ Refusal
 given ns out = answer (given_row ns out) (length ns.list)
 
 -- what the memory then holds

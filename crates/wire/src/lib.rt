@@ -1,20 +1,20 @@
 // What crosses to programs in other languages: an answer as one number, and numbers into lent memory.
 #![tactic(auto)]
 
-ghost use Rattle.std.specs.Prelude.{◌≡◌, [], ◌∷◌};
-ghost use Rattle.wire.specs.Wire.{wire, flag_number};
+ghost use Rattle.std.specs.Prelude.{◌≡◌};
+ghost use Rattle.wire.specs.Wire.{wire, flag_number, mode_numbers};
 ghost use Rattle.wire.specs.Given.{these, given, given_into};
 ghost use Rattle.wire.specs.Put.{put_place, put_into};
 
-use units::{Refusal, Written};
+use units::{Mode, Refusal};
 
 // An answer as one number.
-pub fn number(answer: Written) -> u64
+pub fn number(answer: Result<usize, Refusal>) -> u64
     ensures { result ≡ wire answer }
 {
     match answer {
-        Written::Count(n) => n as u64,
-        Written::Refused(refusal) => 9223372036854775808 + refusal.number(),
+        Ok(n) => n as u64,
+        Err(refusal) => 9223372036854775808 + refusal.number(),
     }
 }
 
@@ -22,36 +22,27 @@ pub fn number(answer: Written) -> u64
 pub fn flag(b: bool) -> u64
     ensures { result ≡ flag_number b }
 {
-    if b { 1 } else { 0 }
-}
-
-// One number, two, and three, written to the front of out.
-pub fn give_one(a: u64, out: &mut [u64]) -> Written
-    ensures { (result ≡ given (these (a ∷ [])) out.old) × (out.new ≡ given_into (these (a ∷ [])) out.old) }
-{
-    give(&[a], out)
-}
-
-pub fn give_two(a: u64, b: u64, out: &mut [u64]) -> Written
-    ensures { (result ≡ given (these (a ∷ b ∷ [])) out.old) × (out.new ≡ given_into (these (a ∷ b ∷ [])) out.old) }
-{
-    give(&[a, b], out)
-}
-
-pub fn give_three(a: u64, b: u64, c: u64, out: &mut [u64]) -> Written
-    ensures { (result ≡ given (these (a ∷ b ∷ c ∷ [])) out.old) × (out.new ≡ given_into (these (a ∷ b ∷ c ∷ [])) out.old) }
-{
-    give(&[a, b, c], out)
+    u64::from(b)
 }
 
 // The numbers, written to the front of out, if it has room for them.
-pub fn give(numbers: &[u64], out: &mut [u64]) -> Written
+pub fn give(numbers: &[u64], out: &mut [u64]) -> Result<usize, Refusal>
     ensures { (result ≡ given (these numbers.now) out.old) × (out.new ≡ given_into (these numbers.now) out.old) }
 {
     if out.len() < numbers.len() {
-        return Written::Refused(Refusal::Room);
+        return Err(Refusal::Room);
     }
-    Written::Count(put(out, 0, numbers))
+    Ok(put(out, 0, numbers))
+}
+
+// The numbers of a Mode, put into the list from place at on, as put does it.
+pub fn mode(list: &mut [u64], at: usize, x: Mode) -> usize
+    ensures { (result ≡ put_place list.old at (mode_numbers x)) × (list.new ≡ put_into list.old at (mode_numbers x)) }
+{
+    match x {
+        Mode::Program => put(list, at, &[0]),
+        Mode::Components(n) => put(list, at, &[1, u64::from(n)]),
+    }
 }
 
 // The numbers, written into the list from place at on, and the place after them. Where they do not fit nothing is written,
@@ -65,8 +56,6 @@ pub fn put(list: &mut [u64], at: usize, numbers: &[u64]) -> usize
     if list.len() - numbers.len() < at {
         return at;
     }
-    for i in 0..numbers.len() {
-        list[at + i] = numbers[i];
-    }
+    list[at..at + numbers.len()].copy_from_slice(numbers);
     at + numbers.len()
 }

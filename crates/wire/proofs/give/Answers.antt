@@ -6,7 +6,7 @@ use Prim.Native.Nat.{ℕ, ◌+◌, ◌≤◌}
 use native.Mathlib.Omega.{arith}
 use lib.ListN.{length, drop}
 use lib.Seq.{sets-eq}
-use Rattle.units.specs.declared.refusals.Written.TheVariants.{Count}
+use Rattle.std.specs.Prelude.{Ok}
 use Rattle.wire.proofs.Placed.{stands}
 use Rattle.wire.proofs.Given.{no_room, written}
 use Rattle.wire.proofs.give.Goals as goal
@@ -23,6 +23,6 @@ returns c =
     let room : length ns ≤ length a.out.now = omega arith in
     let there = stands (omega arith) put.ensures in
     let given = written ns a.out.now room in (
-      ap Count (there.place ∙ all) ∙ given.0,
+      ap Ok (there.place ∙ all) ∙ given.0,
       there.list ∙ sets-eq ns a.out.now 0 (omega arith) ∙ ap (λ (n : ℕ). ns ++ drop n a.out.now) all ∙ given.1,
     )

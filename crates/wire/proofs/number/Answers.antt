@@ -8,7 +8,7 @@ use Rattle.wire.specs.Wire.{wire}
 use Rattle.wire.proofs.number.Goals as goal
 
 pub overflow_add-result : goal.overflow_add-result
-overflow_add-result c = omega (arith, c.number.ensures, number_at_most c.in-Refused.refusal)
+overflow_add-result c = omega (arith, c.number.ensures, number_at_most c.in-Err.refusal)
 
-pub returns-in-Refused : goal.returns-in-Refused
-returns-in-Refused c = ap (λ (n : ℕ). 2 ^ 63 + n) c.number.ensures ∙ ap wire (sym c.in-Refused.is)
+pub returns-in-Err : goal.returns-in-Err
+returns-in-Err c = ap (λ (n : ℕ). 2 ^ 63 + n) c.number.ensures ∙ ap wire (sym c.in-Err.is)
