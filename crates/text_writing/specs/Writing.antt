@@ -1,7 +1,7 @@
 -- The way from bytes to text, with the rows of paper 01 that refuse.
 -- Assumes nothing.
-use Rattle.std.specs.Prelude.{ℕ, List, [], ◌∷◌, length, ltb}
-use Rattle.units.specs.declared.refusals.Written.{Written}
+use Rattle.std.specs.Prelude.{ℕ, List, [], ◌∷◌, length, ltb, Result}
+use Rattle.units.specs.declared.refusals.Refusal.{Refusal}
 use Rattle.units.specs.Refusals.{first}
 use Rattle.units.specs.Answers.{answer, memory}
 use Rattle.base64_rules.specs.Base64.{text_length, encoded}
@@ -15,7 +15,7 @@ write_row s room =
     ∷ [])
 
 -- what writing the text answers
-unfoldable pub write : List ℕ → List ℕ → Written
+unfoldable pub write : List ℕ → List ℕ → Result ℕ Refusal
 write s out = answer (write_row s (length out)) (text_length s)
 
 -- what the lent memory then holds

@@ -6,15 +6,15 @@ mod encode;
 ghost use Rattle.std.specs.Prelude.{◌≡◌};
 ghost use Rattle.text_writing.specs.Writing.{write, write_into};
 
-use units::{MOST_SECTION, Refusal, Written};
+use units::{MOST_SECTION, Refusal};
 
 // The text of the bytes of a section, written to the front of out.
-pub fn to_text(section: &[u8], out: &mut [u8]) -> Written
+pub fn to_text(section: &[u8], out: &mut [u8]) -> Result<usize, Refusal>
     ensures { (result ≡ write section.now out.old) × (out.new ≡ write_into section.now out.old) }
 {
     let n = section.len();
     if MOST_SECTION < n {
-        return Written::Refused(Refusal::Size);
+        return Err(Refusal::Size);
     }
     let whole = n / 3;
     let left = n - 3 * whole;
@@ -23,8 +23,8 @@ pub fn to_text(section: &[u8], out: &mut [u8]) -> Written
         count = count + 4;
     }
     if out.len() < count {
-        return Written::Refused(Refusal::Room);
+        return Err(Refusal::Room);
     }
     encode::put(section, out, whole, left);
-    Written::Count(count)
+    Ok(count)
 }

@@ -2,7 +2,7 @@
 -- Assumes nothing.
 use mathlib.Core.Path.{◌≡◌, ap, ◌∙◌}
 use native.Mathlib.Omega.{arith}
-use Rattle.units.specs.declared.refusals.Written.TheVariants.{Count}
+use Rattle.std.specs.Prelude.{Ok}
 use Rattle.base64_rules.specs.Base64.{text_length}
 use Rattle.text_writing.proofs.WriteRows.{writes_as, row_size, row_no_room, row_written}
 use Rattle.text_writing.proofs.to_text.Goals as goal
@@ -38,4 +38,4 @@ returns c =
     let done =
     writes_as start.section.now start.out.now 0
     (row_written start.section.now _ (omega arith) (omega (arith, counted))) in
-    (ap Count counted ∙ done.0, c.put.ensures ∙ done.1)
+    (ap Ok counted ∙ done.0, c.put.ensures ∙ done.1)
