@@ -9,96 +9,97 @@ ghost use Rattle.grammar.specs.Ended.{outcome};
 ghost use Rattle.grammar.proofs.Run.{Runs};
 ghost use Rattle.segmentation.specs.Segmentation.{segmentation_end_at};
 
-use grammar::Ended;
-
 // After the identifier: where the descriptor ends whose part stands from `at` up to `end`.
-pub fn segmentation_descriptor(s: &[u8], at: usize, end: usize) -> Ended
+pub fn segmentation_descriptor(s: &[u8], at: usize, end: usize) -> Option<usize>
     ensures { outcome result ≡ segmentation_end_at s.now at end }
 {
     if end < at {
-        return Ended::Broken;
+        return None;
     }
     if s.len() < end {
-        return Ended::Broken;
+        return None;
     }
     descriptor(s, at, end)
 }
 
 // The same where the part lies within the bytes.
-fn descriptor(s: &[u8], at: usize, end: usize) -> Ended
+fn descriptor(s: &[u8], at: usize, end: usize) -> Option<usize>
     requires { (at ≤ end) × (end ≤ length s.now) }
     ensures { (env : Env) → Runs segmentation_descriptor env (bit s.now) (8 * end) (8 * at) (outcome result) }
 {
     if end - at < 5 {
-        return Ended::Broken;
+        return None;
     }
     // segmentation_event_cancel_indicator
     if 128 <= s[at + 4] {
-        return Ended::At(at + 5);
+        return Some(at + 5);
     }
     if end - at < 6 {
-        return Ended::Broken;
+        return None;
     }
     let flags = s[at + 5];
     let program_segmentation_flag = flags / 128;
     let segmentation_duration_flag = flags / 64 % 2;
-    let Ended::At(n) = segmentation_components(s, at + 6, end, program_segmentation_flag) else {
-        return Ended::Broken;
-    };
+    let n = segmentation_components(s, at + 6, end, program_segmentation_flag)?;
     if segmentation_duration_flag == 0 {
         return segmentation_end(s, n, end);
     }
     if end - n < 5 {
-        return Ended::Broken;
+        return None;
     }
     segmentation_end(s, n + 5, end)
 }
 
 // Table 20, the components.
-fn segmentation_components(s: &[u8], at: usize, end: usize, program_segmentation_flag: u8) -> Ended
+fn segmentation_components(
+    s: &[u8],
+    at: usize,
+    end: usize,
+    program_segmentation_flag: u8,
+) -> Option<usize>
     requires { (at ≤ end) × (end ≤ length s.now) }
     ensures { (env : Env) → value_of env "program_segmentation_flag" ≡ program_segmentation_flag → Runs segmentation_components env (bit s.now) (8 * end) (8 * at) (outcome result) }
 {
     if program_segmentation_flag != 0 {
-        return Ended::At(at);
+        return Some(at);
     }
     if end - at < 1 {
-        return Ended::Broken;
+        return None;
     }
     let component_count = s[at] as usize;
     if end - at - 1 < 6 * component_count {
-        return Ended::Broken;
+        return None;
     }
-    Ended::At(at + 1 + 6 * component_count)
+    Some(at + 1 + 6 * component_count)
 }
 
 // Table 20, from the UPID on.
-fn segmentation_end(s: &[u8], at: usize, end: usize) -> Ended
+fn segmentation_end(s: &[u8], at: usize, end: usize) -> Option<usize>
     requires { (at ≤ end) × (end ≤ length s.now) }
     ensures { (env : Env) → Runs segmentation_end env (bit s.now) (8 * end) (8 * at) (outcome result) }
 {
     if end - at < 2 {
-        return Ended::Broken;
+        return None;
     }
     let segmentation_upid_length = s[at + 1] as usize;
     if end - at - 2 < segmentation_upid_length {
-        return Ended::Broken;
+        return None;
     }
     let n = at + 2 + segmentation_upid_length;
     if end - n < 3 {
-        return Ended::Broken;
+        return None;
     }
     if !is_sub_segmented(s[n]) {
-        return Ended::At(n + 3);
+        return Some(n + 3);
     }
     // the two bytes may be left out
     if end - n == 3 {
-        return Ended::At(n + 3);
+        return Some(n + 3);
     }
     if end - n < 5 {
-        return Ended::Broken;
+        return None;
     }
-    Ended::At(n + 5)
+    Some(n + 5)
 }
 
 // Whether a segmentation type may carry sub-segments (Table 20).
