@@ -3,14 +3,15 @@
 use mathlib.Core.Path.{◌≡◌, sym, ap, ap₂, ◌∙◌}
 use mathlib.Core.Bool.{Bool, cond, ◌&&◌}
 use mathlib.Core.List.{List}
-use Prim.Native.Nat.{ℕ, ◌*◌, ◌≤◌, ◌<◌}
+use Prim.Native.Nat.{ℕ, ◌+◌, ◌-◌, ◌*◌, ◌≤◌, ◌<◌}
+use native.Mathlib.Omega.{arith}
 use lib.ListN.{length}
 use lib.Dec.{leb}
 use borrow.Author.Tests.{le-leb, lt-leb}
 use Rattle.bits.specs.Bits.{bit}
 use Rattle.grammar.specs.Syntax.{Prog}
-use Rattle.grammar.specs.Meaning.{Env, again, read, run, Outcome, breach, end_of}
-use Rattle.grammar.proofs.Run.{times, end_again}
+use Rattle.grammar.specs.Meaning.{Env, again, read, run, Outcome, breach, ends, end_of}
+use Rattle.grammar.proofs.Run.{times, times_on_lem, times_off, end_again}
 use Rattle.commands.specs.Command.{in_bytes}
 
 module _ (p : Prog) (env : Env) (s : List ℕ) (at end n : ℕ) where
@@ -31,3 +32,13 @@ module _ (p : Prog) (env : Env) (s : List ℕ) (at end n : ℕ) where
 
   pub too_long : at ≤ end → length s < end → breach 0 ≡ placed (in_bytes s at end)
   too_long h l = sym (ap placed (ap₂ ◌&&◌ (le-leb at end h) (lt-leb end (length s) l)))
+
+-- of n parts the first i were run through, up to place k, and the others are still to run: one more of them, or it breaks a rule
+module _ (n i : ℕ) (g : ℕ → Outcome) {o : Outcome} (k : ℕ) (so_far : o ≡ times (n - i) g k) (below : i < n) where
+  pub one_more : {j : ℕ} → g k ≡ ends j → o ≡ times (n - (i + 1)) g j
+  one_more {j} e =
+      let fewer : n - i - 1 ≡ n - (i + 1) = omega arith in
+      so_far ∙ times_on_lem (n - i) g k (omega arith) e ∙ ap (λ (m : ℕ). times m g j) fewer
+
+  pub one_broken : {m : ℕ} → g k ≡ breach m → o ≡ breach m
+  one_broken e = so_far ∙ times_off (n - i) g k (omega arith) e

@@ -3,6 +3,7 @@
 use mathlib.Core.Path.{◌≡◌, refl, sym, ap, ◌∙◌}
 use mathlib.Core.Bool.{Bool, cond}
 use mathlib.Core.List.{List}
+use Rattle.std.specs.Prelude.{Option, Some, None}
 use Prim.Native.Nat.{ℕ, ◌+◌, ◌-◌, ◌*◌, ◌≤◌, ◌<◌}
 use native.Mathlib.Omega.{arith}
 use lib.ListN.{length, get_or}
@@ -12,8 +13,6 @@ use Rattle.bits.proofs.Within.{field_there}
 use Rattle.grammar.specs.Syntax.{stop}
 use Rattle.grammar.specs.Meaning.{value_of, run, breach, ends}
 use Rattle.grammar.specs.Tables.{sized_command, private_command, bytes}
-use Rattle.grammar.specs.declared.Ended.{Ended}
-use Rattle.grammar.specs.declared.Ended.TheVariants.{At, Broken}
 use Rattle.grammar.specs.Ended.{outcome}
 use Rattle.grammar.proofs.Run.{Runs, becomes, yes_last, no_last, framed_all, framed_left, framed_off, frame_short, finished}
 use Rattle.grammar.proofs.Places.{octet}
@@ -22,7 +21,7 @@ use Rattle.commands.proofs.Types.{by_type}
 use Rattle.commands.proofs.command_end.Goals as goal
 
 -- a section's command ends where its run says
-finish : (s : List ℕ) (r : Ended) → 20 ≤ length s → Runs sized_command (known s) (bit s) (8 * (length s - 4)) (8 * 14) (outcome r) → outcome r ≡ command_end s
+finish : (s : List ℕ) (r : Option ℕ) → 20 ≤ length s → Runs sized_command (known s) (bit s) (8 * (length s - 4)) (8 * 14) (outcome r) → outcome r ≡ command_end s
 unfolding command_end
 finish s r long h =
     sym
@@ -58,21 +57,22 @@ returns-then-end-splice_command_length c =
     sym (c.twelve-splice_command_length.ensures ∙ field_there s 92 12 (omega arith) (omega arith)) in
     let s = c.args.s.now in
     let long : 20 ≤ length s = omega arith in
-    finish s Broken long (no_last (ne_eqb _ 4095 (λ q. c.if-splice_command_length-eq4095.false (sym (given-length) ∙ q))) (frame_short (omega (arith, given-length))))
+    finish s None long (no_last (ne_eqb _ 4095 (λ q. c.if-splice_command_length-eq4095.false (sym (given-length) ∙ q))) (frame_short (omega (arith, given-length))))
 
-pub returns-in_default : goal.returns-in_default
+pub returns-in_err-next : goal.returns-in_err-next
 unfolding command_end known sized_command
-returns-in_default c =
+returns-in_err-next c =
     let given-length : value_of (known c.args.s.now) "splice_command_length" ≡ c.twelve-splice_command_length.result = let s = c.args.s.now in
     sym (c.twelve-splice_command_length.ensures ∙ field_there s 92 12 (omega arith) (omega arith)) in
     let part_end : 8 * 14 + 8 * value_of (known c.args.s.now) "splice_command_length" ≡ 8 * (14 + c.twelve-splice_command_length.result) = omega (arith, given-length) in
     let s = c.args.s.now in
     let long : 20 ≤ length s = omega arith in
-    finish s Broken long
+    rw c.from_residual.ensures
+    (finish s None long
     (no_last (ne_eqb _ 4095 (λ q. c.if-splice_command_length-eq4095.false (sym (given-length) ∙ q)))
     (framed_off (part_end) (omega arith)
     (by_type private_command (bytes "command_byte") (get_or s 13 0) (given_type s (c.type_inv.s 13).fits)
-    (becomes (c.command-2.ensures (known s)) (ap outcome c.in_default.is)))))
+    (c.in_err-next.ensures (known s))))))
 
 pub returns-then-next-part : goal.returns-then-next-part
 unfolding command_end known sized_command
@@ -82,11 +82,11 @@ returns-then-next-part c =
     let part_end : 8 * 14 + 8 * value_of (known c.args.s.now) "splice_command_length" ≡ 8 * (14 + c.twelve-splice_command_length.result) = omega (arith, given-length) in
     let s = c.args.s.now in
     let long : 20 ≤ length s = omega arith in
-    finish s (At (14 + c.twelve-splice_command_length.result)) long
+    finish s (Some (14 + c.twelve-splice_command_length.result)) long
     (no_last (ne_eqb _ 4095 (λ q. c.if-splice_command_length-eq4095.false (sym (given-length) ∙ q)))
     (framed_all (part_end) (omega arith)
     (by_type private_command (bytes "command_byte") (get_or s 13 0) (given_type s (c.type_inv.s 13).fits)
-    (becomes (c.command-2.ensures (known s)) (ap outcome c.in-At.is ∙ ap (λ (n : ℕ). ends (8 * n)) c.if-next-part.true)))
+    (becomes (c.in_ok-next.ensures (known s)) (ap (λ (n : ℕ). ends (8 * n)) c.if-next-part.true)))
     (finished refl)))
 
 pub returns-else-next-part : goal.returns-else-next-part
@@ -97,9 +97,9 @@ returns-else-next-part c =
     let part_end : 8 * 14 + 8 * value_of (known c.args.s.now) "splice_command_length" ≡ 8 * (14 + c.twelve-splice_command_length.result) = omega (arith, given-length) in
     let s = c.args.s.now in
     let long : 20 ≤ length s = omega arith in
-    finish s Broken long
+    finish s None long
     (no_last (ne_eqb _ 4095 (λ q. c.if-splice_command_length-eq4095.false (sym (given-length) ∙ q)))
     (framed_left (part_end) (omega arith)
     (by_type private_command (bytes "command_byte") (get_or s 13 0) (given_type s (c.type_inv.s 13).fits)
-    (becomes (c.command-2.ensures (known s)) (ap outcome c.in-At.is)))
+    (c.in_ok-next.ensures (known s)))
     (λ q. c.if-next-part.false (omega (arith, q)))))
