@@ -14,8 +14,6 @@ pub fn put(bytes: &[u8], memory: &mut [u8], at: usize) -> bool
     if memory.len() - at < bytes.len() {
         return false;
     }
-    for i in 0..bytes.len() {
-        memory[at + i] = bytes[i];
-    }
+    memory[at..at + bytes.len()].copy_from_slice(bytes);
     true
 }
