@@ -12,7 +12,7 @@ use Rattle.bits.specs.Bits.{bit, bytes_of}
 use Rattle.bits.proofs.Num.{num_lt, num_ext}
 use Rattle.bits.proofs.Digits.{zeros}
 use Rattle.bits.proofs.Bytes.{AreBytes, bit_lt, bit_past, bytes_of_bit, bytes_of_ext}
-use Rattle.units.specs.declared.refusals.Written.TheVariants.{Count}
+use Rattle.std.specs.Prelude.{Ok}
 use Rattle.text.specs.Text.{character, before, text_bit, count, decoded, spare, read_row, read, read_into, text_length, encoded, write, write_into}
 use Rattle.base64_rules.proofs.Alphabet.{character_sextet}
 use Rattle.base64_rules.proofs.AllOf.{all_each, all_at}
@@ -91,21 +91,21 @@ decoded_once t u room room' a b e = sym (encoded_decoded t room a) ∙ ap encode
 -- what is written as text is read back as the same bytes
 pub reads_back : (s out back : List ℕ) → AreBytes s → length s ≤ 4096 → text_length s ≤ length out → length s ≤ length back
     → let t = take (text_length s) (write_into s out) in
-    (write s out ≡ Count (text_length s)) × (read t back ≡ Count (length s)) × (read_into t back ≡ s ++ drop (length s) back)
+    (write s out ≡ Ok (text_length s)) × (read t back ≡ Ok (length s)) × (read_into t back ≡ s ++ drop (length s) back)
 reads_back s out back small short room fits =
     let written = writes_as s out 0 (row_written s (length out) short room) in
     let taken : take (text_length s) (write_into s out) ≡ encoded s =
     ap (take (text_length s)) (sym written.1) ∙ take_at (encoded s) _ (text_length s) (length_encoded s) in
     let done = reads_as (encoded s) back 0 (encoded_read s (length back) short fits) in (
       sym written.0,
-      rw taken (sym done.0 ∙ ap Count (count_encoded s)),
+      rw taken (sym done.0 ∙ ap Ok (count_encoded s)),
       rw taken (sym done.1 ∙ ap (λ (b : List ℕ). b ++ drop (length b) back) (decoded_encoded s small)),
     )
 
 -- what is read from a text is written as the same text
 pub writes_back : (t out back : List ℕ) → read_row t (length out) ≡ 0 → count t ≤ 4096 → length t ≤ length back
     → let s = take (count t) (read_into t out) in
-    (read t out ≡ Count (count t)) × (write s back ≡ Count (length t)) × (write_into s back ≡ t ++ drop (length t) back)
+    (read t out ≡ Ok (count t)) × (write s back ≡ Ok (length t)) × (write_into s back ≡ t ++ drop (length t) back)
 writes_back t out back fine short fits =
     let again = encoded_decoded t (length out) fine in
     let long : text_length (decoded t) ≡ length t = sym (length_encoded (decoded t)) ∙ ap length again in
@@ -115,6 +115,6 @@ writes_back t out back fine short fits =
     let row = row_written (decoded t) (length back) (omega (arith, length_decoded t)) (omega arith) in
     let done = writes_as (decoded t) back 0 row in (
       sym given.0,
-      rw taken (sym done.0 ∙ ap Count long),
+      rw taken (sym done.0 ∙ ap Ok long),
       rw taken (sym done.1 ∙ ap (λ (u : List ℕ). u ++ drop (length u) back) again),
     )

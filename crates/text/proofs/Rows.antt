@@ -10,7 +10,7 @@ use lib.ListN.{length, take}
 use borrow.Author.Tests.{lt-ltb, le-ltb, eq-eqb, ne_eqb, ltb-false, leb-true, leb-false, eqb-true, not-false}
 use Rattle.bits.proofs.Cases.{neither}
 use Rattle.units.specs.declared.refusals.Refusal.TheVariants.{Room}
-use Rattle.units.specs.declared.refusals.Written.TheVariants.{Count, Refused}
+use Rattle.std.specs.Prelude.{Ok, Err}
 use Rattle.units.specs.Answers.{answer, memory}
 use Rattle.units.specs.Put.{fits, put_into}
 use Rattle.units.proofs.Put.{at_front, unchanged}
@@ -64,12 +64,12 @@ module _ (t out : List ℕ) (a : Accepted t) (p : List ℕ) (bytes : p ≡ decod
   long : length p ≡ count t
   long = ap length bytes ∙ length_decoded t
 
-  pub put_there : fits out 0 p ≡ true → (Count (count t) ≡ read t out) × (put_into out 0 p ≡ read_into t out)
+  pub put_there : fits out 0 p ≡ true → (Ok (count t) ≡ read t out) × (put_into out 0 p ≡ read_into t out)
   put_there h =
       let is = reads_as t out 0 (row_none t (length out) a (omega (arith, long, leb-true (0 + length p) (length out) h))) in
       (is.0, at_front out p h ∙ ap (λ (l : List ℕ). memory 0 l out) bytes ∙ is.1)
 
-  pub put_nowhere : fits out 0 p ≡ false → (Refused Room ≡ read t out) × (put_into out 0 p ≡ read_into t out)
+  pub put_nowhere : fits out 0 p ≡ false → (Err Room ≡ read t out) × (put_into out 0 p ≡ read_into t out)
   put_nowhere h =
       let is = reads_as t out 11 (row_room t (length out) a (omega (arith, long, leb-false (0 + length p) (length out) h))) in
       (is.0, unchanged out 0 p h ∙ is.1)

@@ -2,8 +2,8 @@
 -- Assumes nothing.
 unfoldable pub use Rattle.base64_rules.specs.Base64.{character, sextet, padding, before, text_bit, count, decoded, all_of, spare, text_length, character_at, encoded}
 unfoldable pub use Rattle.text_writing.specs.Writing.{write_row, write, write_into}
-use Rattle.std.specs.Prelude.{ℕ, ◌%◌, not, ◌||◌, List, [], ◌∷◌, length, take, ltb, eqb}
-use Rattle.units.specs.declared.refusals.Written.{Written}
+use Rattle.std.specs.Prelude.{ℕ, ◌%◌, not, ◌||◌, List, [], ◌∷◌, length, take, ltb, eqb, Result}
+use Rattle.units.specs.declared.refusals.Refusal.{Refusal}
 use Rattle.units.specs.Refusals.{first}
 use Rattle.units.specs.Answers.{answer, memory}
 
@@ -18,7 +18,7 @@ read_row t room =
     ∷ [])
 
 -- what reading the text answers
-unfoldable pub read : List ℕ → List ℕ → Written
+unfoldable pub read : List ℕ → List ℕ → Result ℕ Refusal
 read t out = answer (read_row t (length out)) (count t)
 
 -- what the lent memory then holds

@@ -7,7 +7,7 @@ ghost use Rattle.text.specs.Groups.{plain, worth};
 ghost use Rattle.text.specs.Text.{padding, before, text_bit, all_of, read, read_into};
 
 use base64_rules::OUTSIDE;
-use units::{Refusal, Written};
+use units::Refusal;
 
 // How many `=` end the text as padding.
 fn padding(text: &[u8]) -> usize
@@ -91,21 +91,21 @@ fn byte(bytes: &[u8], i: usize) -> u8
 }
 
 // Reads a text of whole groups by way of the reader's own memory, which has room for three bytes a group.
-pub(crate) fn read_in(text: &[u8], own: &mut [u8], out: &mut [u8]) -> Written
+pub(crate) fn read_in(text: &[u8], own: &mut [u8], out: &mut [u8]) -> Result<usize, Refusal>
     requires { (length text.now % 4 ≡ 0) × (length text.now ≤ 5464) × (3 * (length text.now / 4) ≤ length own.old) }
     ensures { (result ≡ read text.now out.old) × (out.new ≡ read_into text.now out.old) }
 {
     let n = text.len() - padding(text);
     if !put_groups(text, n, own) {
-        return Written::Refused(Refusal::TextChar);
+        return Err(Refusal::TextChar);
     }
     let count = 6 * n / 8;
     if 0 < byte(&own[..3 * (text.len() / 4)], count) {
-        return Written::Refused(Refusal::TextBits);
+        return Err(Refusal::TextBits);
     }
     if lent::put(&own[..count], out, 0) {
-        Written::Count(count)
+        Ok(count)
     } else {
-        Written::Refused(Refusal::Room)
+        Err(Refusal::Room)
     }
 }

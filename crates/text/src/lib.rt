@@ -7,18 +7,18 @@ ghost use Rattle.std.specs.Prelude.{◌≡◌};
 ghost use Rattle.text.specs.Text.{read, read_into};
 
 pub use text_writing::to_text;
-use units::{MOST_TEXT, MOST_TEXT_BYTES, Refusal, Written};
+use units::{MOST_TEXT, MOST_TEXT_BYTES, Refusal};
 
 // The bytes of a text, written to the front of out.
-pub fn to_section(text: &[u8], out: &mut [u8]) -> Written
+pub fn to_section(text: &[u8], out: &mut [u8]) -> Result<usize, Refusal>
     ensures { (result ≡ read text.now out.old) × (out.new ≡ read_into text.now out.old) }
 {
     let n = text.len();
     if n % 4 != 0 {
-        return Written::Refused(Refusal::TextLen);
+        return Err(Refusal::TextLen);
     }
     if MOST_TEXT < n {
-        return Written::Refused(Refusal::TextLen);
+        return Err(Refusal::TextLen);
     }
     if n <= 128 {
         let mut own = [0u8; 96];

@@ -9,7 +9,7 @@ use lib.ListN.{length, get_or, take}
 use Rattle.text.specs.Text.{padding, before, text_bit, count, decoded, spare}
 use Rattle.bits.specs.Bits.{bytes_of}
 use Rattle.bits.proofs.Bytes.{length_bytes_of}
-use Rattle.units.specs.declared.refusals.Written.TheVariants.{Count}
+use Rattle.std.specs.Prelude.{Ok}
 use Rattle.units.specs.Answers.{memory}
 use Rattle.base64_rules.proofs.Counts.{count_is}
 use Rattle.base64_rules.proofs.Fill.{filled}
@@ -104,7 +104,7 @@ returns-then-put c =
     let is =
     put_there t c.args.out.now accepted _ (bytes t _ _ full c.requires.0 _ c.padding.ensures)
     (sym c.put.ensures.0 ∙ c.if-put.true) in
-    (ap Count (is_count t _ c.padding.ensures) ∙ is.0, c.put.ensures.1 ∙ is.1)
+    (ap Ok (is_count t _ c.padding.ensures) ∙ is.0, c.put.ensures.1 ∙ is.1)
 
 pub returns-else-put : goal.returns-else-put
 returns-else-put c =
