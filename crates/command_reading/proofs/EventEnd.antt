@@ -5,6 +5,7 @@ use mathlib.Core.Path.{◌≡◌, refl, ap, ◌∙◌}
 use mathlib.Core.Bool.{Bool, true, false, cond, ◌&&◌}
 use mathlib.Core.List.{List, ◌++◌}
 use Prim.Native.Nat.{ℕ, ◌+◌, ◌-◌, ◌*◌, ◌≤◌}
+use Rattle.std.specs.Prelude.{Option, Some, None}
 use native.Mathlib.Omega.{arith}
 use lib.ListN.{length}
 use lib.Dec.{eqb}
@@ -26,8 +27,8 @@ use Rattle.command_reading.specs.Places.{break_at, avails_at}
 use Rattle.command_reading.proofs.Rows.{from, field_from, each_weaker}
 
 -- the break of the rows t, where there is one
-abbrev break_in : Trace → Bool → BreakDuration
-break_in t flag = cond flag (BreakDuration.Present (is_set t "auto_return") (ticks (look t "duration"))) BreakDuration.Absent
+abbrev break_in : Trace → Bool → Option BreakDuration
+break_in t flag = cond flag (Some (record { auto_return = is_set t "auto_return"; duration = ticks (look t "duration") })) None
 
 -- the rows t of an event's end have the values that stand before byte `end`
 pub record Before (s : List ℕ) (end : ℕ) (flag : Bool) (t : Trace) : Type 0 where
@@ -52,7 +53,7 @@ avails_tell s env stop k true fits e =
     let auto = there s k (8 * (end - 9)) 1 (omega arith) (omega arith) (omega arith) in
     let lasts = there s (k + 1 + 6) (8 * (end - 9) + 7) 33 (omega arith) (omega arith) (omega arith) in
     record {
-      break = λ i. BreakDuration.Present (eqb (auto i) 1) (ticks (lasts i));
+      break = λ i. Some (record { auto_return = eqb (auto i) 1; duration = ticks (lasts i) });
       program = there s (k + 40) (8 * (end - 4)) 16 (omega arith) (omega arith) (omega arith);
       number = there s (k + 40 + 16) (8 * (end - 2)) 8 (omega arith) (omega arith) (omega arith);
       expected = there s (k + 40 + 16 + 8) (8 * (end - 1)) 8 (omega arith) (omega arith) (omega arith);
@@ -76,7 +77,7 @@ pub avails_from : (s : List ℕ) (end : ℕ) (flag : Bool) → 9 ≤ end → end
 unfolding avails_at break_at
 avails_from s end flag h l = λ i.
     record {
-      break_duration = cond flag (BreakDuration.Present (eqb (at 0 (8 * (end - 9)) 1 (omega arith) i) 1) (ticks (at 7 (8 * (end - 9) + 7) 33 refl i))) BreakDuration.Absent;
+      break_duration = cond flag (Some (record { auto_return = eqb (at 0 (8 * (end - 9)) 1 (omega arith) i) 1; duration = ticks (at 7 (8 * (end - 9) + 7) 33 refl i) })) None;
       unique_program_id = at 40 (8 * (end - 4)) 16 (omega arith) i;
       avail_num = at 56 (8 * (end - 2)) 8 (omega arith) i;
       avails_expected = at 64 (8 * (end - 1)) 8 (omega arith) i;
@@ -102,7 +103,7 @@ avails_said s end flag u t h d b =
     record {
       break_duration =
           (ap (λ (x : Bool). break_in (u ++ t) x) d
-          ∙ (λ j. cond flag (BreakDuration.Present (eqb (auto j) 1) (ticks (lasts j))) BreakDuration.Absent)
+          ∙ (λ j. cond flag (Some (record { auto_return = eqb (auto j) 1; duration = ticks (lasts j) })) None)
           ∙ b.break)
           i;
       unique_program_id = (passed "unique_program_id" (λ x e. and_left (other "unique_program_id" x) _ (last x e)) ∙ b.program) i;

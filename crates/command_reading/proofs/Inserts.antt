@@ -19,7 +19,7 @@ use Rattle.grammar.specs.Names.{look, is_set}
 use Rattle.grammar.proofs.Ends.{given}
 use Rattle.grammar.proofs.Each.{Each, every, each_append, read_each, repeat_each}
 use Rattle.grammar.proofs.Telling.{Tells, so, rows, arm_last, sub, sub_last, some, loop, over}
-use Rattle.command_reading.specs.declared.answers.Mode.{Mode}
+use Rattle.units.specs.declared.mode.Mode.{Mode}
 use Rattle.command_reading.specs.declared.answers.Command.{Command}
 use Rattle.command_reading.specs.Command.{insert_time, mode_of, avails_of, insert_of}
 use Rattle.command_reading.specs.Places.{insert_time_at, insert_mode_at, insert_at, avails_at}

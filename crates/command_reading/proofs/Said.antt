@@ -4,6 +4,7 @@ use mathlib.Core.Path.{◌≡◌, refl, sym, ap, ◌∙◌}
 use mathlib.Core.List.{List, [], append-nil}
 use Prim.Native.Nat.{ℕ, ◌-◌, ◌*◌, ◌≤◌}
 use native.Mathlib.Omega.{arith}
+use Rattle.std.specs.Prelude.{Ok, Err}
 use lib.ListN.{length}
 use borrow.Author.Tests.{ne_eqb}
 use Rattle.bits.specs.Bits.{bit, num, field_of}
@@ -17,6 +18,7 @@ use Rattle.grammar.proofs.Names.{fields_length}
 use Rattle.grammar.proofs.Telling.{Tells, rows, some}
 use Rattle.commands.specs.Command.{known, table_of}
 use Rattle.command_reading.specs.declared.answers.Command.{Command}
+use Rattle.command_reading.specs.declared.answers.SpliceTime.{SpliceTime}
 use Rattle.command_reading.specs.Command.{command_reading, typed, command_trace, time_of, command_of, where_read}
 use Rattle.command_reading.specs.Command as says
 use Rattle.command_reading.specs.Places.{time_at, insert_at}
@@ -26,11 +28,11 @@ use Rattle.command_reading.proofs.Inserts.{insert_tells}
 use Rattle.command_reading.proofs.Private.{Private, private_tells}
 
 -- a command that breaks its table is refused
-pub refused : (s : List ℕ) → end_of (command_reading s) ≡ breach 0 → Command.Refused Refusal.Command ≡ says.command s
+pub refused : (s : List ℕ) → end_of (command_reading s) ≡ breach 0 → Err Refusal.Command ≡ says.command s
 unfolding says.command end_of where_read
 refused s e = of (command_reading s) e
   where
-    of : (r : Reading) → end_of r ≡ breach 0 → Command.Refused Refusal.Command ≡ where_read r (command_of (command_trace s))
+    of : (r : Reading) → end_of r ≡ breach 0 → Err Refusal.Command ≡ where_read r (command_of (command_trace s))
     of (broken n) q = refl
     of (reached k t) q = let z : ◌≡◌ {A = ℕ} 0 1 = cc in absurd (omega arith)
 
@@ -62,31 +64,31 @@ module _ (s : List ℕ) (end : ℕ) (t : Trace) (e : command_reading s ≡ reach
       let inner = ends_within (table_of (num (bit s) 104 8) private_command (bytes "command_byte")) (known s) (bit s) x.stop 112 (8 * end) t x.reads x.starts in
       (x.long, x.fits, omega arith, omega arith)
 
-  said : says.command s ≡ command_of (typed s t)
+  said : says.command s ≡ Ok (command_of (typed s t))
   unfolding says.command where_read command_trace trace_of
   said = rw e
 
-  pub null : num (bit s) 104 8 ≡ 0x00 → says.command s ≡ Command.Null
+  pub null : num (bit s) 104 8 ≡ 0x00 → says.command s ≡ Ok Command.Null
   unfolding command_of typed values look
   null h = said ∙ rw h
 
-  pub schedule : num (bit s) 104 8 ≡ 0x04 → says.command s ≡ Command.Schedule (num (bit s) 112 8)
+  pub schedule : num (bit s) 104 8 ≡ 0x04 → says.command s ≡ Ok (Command.Schedule (num (bit s) 112 8))
   unfolding command_of typed values look table_of
-  schedule h = said ∙ rw h (ap Command.Schedule (given (count_tells s (known s) came.stop).tells (by_table 0x04 h)))
+  schedule h = said ∙ rw h (ap (λ (n : ℕ). Ok (Command.Schedule n)) (given (count_tells s (known s) came.stop).tells (by_table 0x04 h)))
 
-  pub insert : num (bit s) 104 8 ≡ 0x05 → says.command s ≡ insert_at s end
+  pub insert : num (bit s) 104 8 ≡ 0x05 → says.command s ≡ Ok (insert_at s end)
   unfolding command_of typed values look table_of
-  insert h = said ∙ rw h (given (insert_tells s (known s) came.stop fits).tells (by_table 0x05 h) end refl)
+  insert h = said ∙ rw h (ap Ok (given (insert_tells s (known s) came.stop fits).tells (by_table 0x05 h) end refl))
 
-  pub signal : num (bit s) 104 8 ≡ 0x06 → says.command s ≡ Command.TimeSignal (time_at s 14)
+  pub signal : num (bit s) 104 8 ≡ 0x06 → says.command s ≡ Ok (Command.TimeSignal (time_at s 14))
   unfolding command_of typed values look table_of
   signal h =
       said
       ∙ rw h
-      (ap Command.TimeSignal
+      (ap (λ (x : SpliceTime). Ok (Command.TimeSignal x))
       (ap time_of (sym (append-nil t)) ∙ given (time_tells s (known s) came.stop 14 fits).tells (by_table 0x06 h) []))
 
-  pub reservation : num (bit s) 104 8 ≡ 0x07 → says.command s ≡ Command.BandwidthReservation
+  pub reservation : num (bit s) 104 8 ≡ 0x07 → says.command s ≡ Ok Command.BandwidthReservation
   unfolding command_of typed values look
   reservation h = said ∙ rw h
 
@@ -94,16 +96,16 @@ module _ (s : List ℕ) (end : ℕ) (t : Trace) (e : command_reading s ≡ reach
   unfolding table_of
   private_rows h = given (private_tells s (known s) came.stop came.octets came.whole fits).tells (by_table 0xFF h) end refl
 
-  pub private_one : num (bit s) 104 8 ≡ 0xFF → says.command s ≡ Command.Private (field_of s 112 32) (end - 18)
+  pub private_one : num (bit s) 104 8 ≡ 0xFF → says.command s ≡ Ok (Command.Private (field_of s 112 32) (end - 18))
   unfolding command_of typed values look all_of
   private_one h =
       let x = private_rows h in
       let count : length (all_of t "private_byte") ≡ end - 18 = ap length x.bytes ∙ fields_length (bit s) 8 (end - 18) 144 in
-      said ∙ rw h (λ i. Command.Private (x.identifier i) (count i))
+      said ∙ rw h (λ i. Ok (Command.Private (x.identifier i) (count i)))
 
   -- a type that Table 7 does not have
   pub unread : (num (bit s) 104 8 ≡ 0x00 → ⊥) → (num (bit s) 104 8 ≡ 0x04 → ⊥) → (num (bit s) 104 8 ≡ 0x05 → ⊥) → (num (bit s) 104 8 ≡ 0x06 → ⊥)
-      → (num (bit s) 104 8 ≡ 0x07 → ⊥) → (num (bit s) 104 8 ≡ 0xFF → ⊥) → says.command s ≡ Command.Unread
+      → (num (bit s) 104 8 ≡ 0x07 → ⊥) → (num (bit s) 104 8 ≡ 0xFF → ⊥) → says.command s ≡ Ok Command.Unread
   unfolding command_of typed values look
   unread h0 h4 h5 h6 h7 hF =
       said ∙ rw (ne_eqb _ 0x00 h0, ne_eqb _ 0x04 h4, ne_eqb _ 0x05 h5, ne_eqb _ 0x06 h6, ne_eqb _ 0x07 h7, ne_eqb _ 0xFF hF)

@@ -1,7 +1,8 @@
 -- What a command says: every value is that of a field on the section's sheet, under the field's name.
 -- Assumes nothing.
-use Rattle.std.specs.Prelude.{ℕ, ◌-◌, ◌*◌, Bool, cond, ◌&&◌, List, [], ◌∷◌, ◌++◌, length, leb, eqb}
+use Rattle.std.specs.Prelude.{ℕ, ◌-◌, ◌*◌, Bool, cond, ◌&&◌, List, [], ◌∷◌, ◌++◌, Option, Some, None, Result, Ok, Err, length, leb, eqb}
 use Rattle.bits.specs.Bits.{bit}
+use Rattle.units.specs.declared.mode.Mode.{Mode}
 use Rattle.units.specs.declared.refusals.Refusal.{Refusal}
 use Rattle.units.specs.Clock.{ticks, event_id}
 use Rattle.grammar.specs.Syntax.{field}
@@ -11,7 +12,6 @@ use Rattle.grammar.specs.Traces.{Trace, trace_of}
 use Rattle.grammar.specs.Names.{look, is_set, all_of}
 use Rattle.commands.specs.Command.{known}
 use Rattle.command_reading.specs.declared.answers.SpliceTime.{SpliceTime}
-use Rattle.command_reading.specs.declared.answers.Mode.{Mode}
 use Rattle.command_reading.specs.declared.answers.BreakDuration.{BreakDuration}
 use Rattle.command_reading.specs.declared.answers.Avails.{Avails}
 use Rattle.command_reading.specs.declared.answers.Command.{Command}
@@ -53,9 +53,10 @@ insert_time t =
 abbrev pub mode_of : Trace → Mode
 mode_of t = cond (is_set t "program_splice_flag") Mode.Program (Mode.Components (look t "component_count"))
 
--- break_duration()
-abbrev pub break_of : Trace → BreakDuration
-break_of t = cond (is_set t "duration_flag") (BreakDuration.Present (is_set t "auto_return") (ticks (look t "duration"))) BreakDuration.Absent
+-- break_duration(), where there is one
+abbrev pub break_of : Trace → Option BreakDuration
+break_of t =
+    cond (is_set t "duration_flag") (Some (record { auto_return = is_set t "auto_return"; duration = ticks (look t "duration") })) None
 
 -- what stands at the end of an event
 abbrev pub avails_of : Trace → Avails
@@ -94,10 +95,10 @@ command_of t =
     Command.Unread)))))
 
 -- where the command could be read
-unfoldable pub where_read : Reading → Command → Command
-where_read (broken n) c = Command.Refused Refusal.Command
-where_read (reached k t) c = c
+unfoldable pub where_read : Reading → Command → Result Command Refusal
+where_read (broken n) c = Err Refusal.Command
+where_read (reached k t) c = Ok c
 
 -- the section's command; refused, where it breaks its table or its length
-unfoldable pub command : List ℕ → Command
+unfoldable pub command : List ℕ → Result Command Refusal
 command s = where_read (command_reading s) (command_of (command_trace s))

@@ -1,10 +1,10 @@
 -- The parts of a command by the byte at which they stand.
 -- Assumes nothing.
-use Rattle.std.specs.Prelude.{ℕ, ◌+◌, ◌-◌, ◌*◌, Bool, cond, List}
+use Rattle.std.specs.Prelude.{ℕ, ◌+◌, ◌-◌, ◌*◌, Bool, cond, List, Option, Some, None}
 use Rattle.bits.specs.Bits.{field_of, flag_of}
+use Rattle.units.specs.declared.mode.Mode.{Mode}
 use Rattle.units.specs.Clock.{ticks, event_id}
 use Rattle.command_reading.specs.declared.answers.SpliceTime.{SpliceTime}
-use Rattle.command_reading.specs.declared.answers.Mode.{Mode}
 use Rattle.command_reading.specs.declared.answers.BreakDuration.{BreakDuration}
 use Rattle.command_reading.specs.declared.answers.Avails.{Avails}
 use Rattle.command_reading.specs.declared.answers.Command.{Command}
@@ -14,9 +14,9 @@ unfoldable pub time_at : List ℕ → ℕ → SpliceTime
 time_at s at = cond (flag_of s (8 * at)) (SpliceTime.Given (ticks (field_of s (8 * at + 7) 33))) SpliceTime.NotGiven
 
 -- break_duration() from byte `at` on, where there is one
-unfoldable pub break_at : List ℕ → ℕ → Bool → BreakDuration
+unfoldable pub break_at : List ℕ → ℕ → Bool → Option BreakDuration
 break_at s at duration =
-    cond duration (BreakDuration.Present (flag_of s (8 * at)) (ticks (field_of s (8 * at + 7) 33))) BreakDuration.Absent
+    cond duration (Some (record { auto_return = flag_of s (8 * at); duration = ticks (field_of s (8 * at + 7) 33) })) None
 
 -- the end of an event before byte `end`
 unfoldable pub avails_at : List ℕ → ℕ → Bool → Avails

@@ -1,5 +1,5 @@
 // What a splice command says, by case.
-use units::{EventId, Refusal, Ticks};
+use units::{EventId, Mode, Ticks};
 
 // When a splice takes place (Table 14).
 #[derive(Clone, Copy)]
@@ -11,24 +11,17 @@ pub enum SpliceTime {
     Given(Ticks),
 }
 
-// Whether the whole program is spliced, or so many components are.
-#[derive(Clone, Copy)]
-pub enum Mode {
-    Program,
-    Components(u8),
-}
-
 // How long the break lasts (Table 15).
 #[derive(Clone, Copy)]
-pub enum BreakDuration {
-    Absent,
-    Present { auto_return: bool, duration: Ticks },
+pub struct BreakDuration {
+    pub auto_return: bool,
+    pub duration: Ticks,
 }
 
 // The end of an event (Tables 9 and 10).
 #[derive(Clone, Copy)]
 pub struct Avails {
-    pub break_duration: BreakDuration,
+    pub break_duration: Option<BreakDuration>,
     pub unique_program_id: u16,
     pub avail_num: u8,
     pub avails_expected: u8,
@@ -58,14 +51,13 @@ pub enum Command {
     Private(u32, usize),
     // Of a type that the standard does not have.
     Unread,
-    Refused(Refusal),
 }
 
 // A component of a splice insert.
 #[derive(Clone, Copy)]
-pub enum InsertComponent {
-    Component { component_tag: u8, time: SpliceTime },
-    Refused(Refusal),
+pub struct InsertComponent {
+    pub component_tag: u8,
+    pub time: SpliceTime,
 }
 
 // When an event of a schedule takes place (Table 9).
@@ -91,22 +83,11 @@ pub struct ScheduledEvent {
 pub enum Event {
     Scheduled(ScheduledEvent),
     Cancelled(EventId),
-    Refused(Refusal),
 }
 
 // A component of a schedule's event.
 #[derive(Clone, Copy)]
-pub enum EventComponent {
-    Component {
-        component_tag: u8,
-        utc_splice_time: u32,
-    },
-    Refused(Refusal),
-}
-
-// A byte of a private command, after its identifier.
-#[derive(Clone, Copy)]
-pub enum PrivateByte {
-    Byte(u8),
-    Refused(Refusal),
+pub struct EventComponent {
+    pub component_tag: u8,
+    pub utc_splice_time: u32,
 }

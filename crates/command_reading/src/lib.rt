@@ -13,36 +13,34 @@ ghost use Rattle.command_reading.specs.Command as says;
 
 pub use answers::{
     Avails, BreakDuration, Command, Event, EventComponent, EventTime, Insert, InsertComponent,
-    Mode, PrivateByte, ScheduledEvent, SpliceTime,
+    ScheduledEvent, SpliceTime,
 };
-use grammar::Ended;
 pub use parts::{avails, splice_time};
+pub use units::Mode;
 use units::{MOST_SECTION, Refusal};
 
 // The command of the section.
-pub fn command(s: &[u8]) -> Command
+pub fn command(s: &[u8]) -> Result<Command, Refusal>
     ensures { result ≡ says.command s.now }
 {
-    let Ended::At(end) = end(s) else {
-        return Command::Refused(Refusal::Command);
-    };
+    let end = end(s).ok_or(Refusal::Command)?;
     match s[13] {
-        0x00 => Command::Null,
-        0x04 => Command::Schedule(s[14]),
-        0x05 => parts::insert(s, end),
-        0x06 => Command::TimeSignal(splice_time(&s[14..])),
-        0x07 => Command::BandwidthReservation,
-        0xFF => Command::Private(bits::quad(s, 14) as u32, end - 18),
-        _ => Command::Unread,
+        0x00 => Ok(Command::Null),
+        0x04 => Ok(Command::Schedule(s[14])),
+        0x05 => Ok(parts::insert(s, end)),
+        0x06 => Ok(Command::TimeSignal(splice_time(&s[14..]))),
+        0x07 => Ok(Command::BandwidthReservation),
+        0xFF => Ok(Command::Private(bits::quad(s, 14) as u32, end - 18)),
+        _ => Ok(Command::Unread),
     }
 }
 
 // Where the command ends, in no more bytes than a section may have.
-pub fn end(s: &[u8]) -> Ended
+pub fn end(s: &[u8]) -> Option<usize>
     ensures { outcome result ≡ end_of (command_reading s.now) }
 {
     if MOST_SECTION < s.len() {
-        return Ended::Broken;
+        return None;
     }
     commands::command_end(s)
 }

@@ -2,8 +2,8 @@
 ghost use Rattle.std.specs.Prelude.{◌≡◌, ◌≤◌, length};
 ghost use Rattle.command_reading.specs.Places.{time_at, break_at, avails_at, insert_time_at, insert_mode_at, insert_at};
 
-use crate::answers::{Avails, BreakDuration, Command, Insert, Mode, SpliceTime};
-use units::{EventId, Ticks};
+use crate::answers::{Avails, BreakDuration, Command, Insert, SpliceTime};
+use units::{EventId, Mode, Ticks};
 
 // Table 14, from the first byte on.
 pub fn splice_time(s: &[u8]) -> SpliceTime
@@ -16,17 +16,17 @@ pub fn splice_time(s: &[u8]) -> SpliceTime
     }
 }
 
-// Table 15, from the first byte on.
-fn break_duration(s: &[u8], duration_flag: bool) -> BreakDuration
+// Table 15, from the first byte on, where there is one.
+fn break_duration(s: &[u8], duration_flag: bool) -> Option<BreakDuration>
     ensures { result ≡ break_at s.now 0 duration_flag }
 {
     if duration_flag {
-        BreakDuration::Present {
+        Some(BreakDuration {
             auto_return: bits::flag(s, 0),
             duration: Ticks(bits::read(s, 7, 33)),
-        }
+        })
     } else {
-        BreakDuration::Absent
+        None
     }
 }
 

@@ -3,7 +3,7 @@
 use mathlib.Core.Path.{sym, ◌∙◌}
 use native.Mathlib.Omega.{arith}
 use Rattle.bits.proofs.Fields.{field_lt}
-use Rattle.command_reading.specs.declared.answers.Mode.{Mode}
+use Rattle.units.specs.declared.mode.Mode.{Mode}
 use Rattle.command_reading.proofs.parts.insert_mode.Goals as goal
 
 pub overflow_cast-result : goal.overflow_cast-result
