@@ -99,8 +99,7 @@ fn put_groups(section: &[u8], out: &mut [u8], n: usize)
     requires { (3 * n ≤ length section.now) × (4 * n ≤ length out.old) }
     ensures { out.new ≡ memory 0 (run (character_at section.now) 0 (4 * n)) out.old }
 {
-    let mut q = 0;
-    while q < n {
+    for q in 0..n {
         let a = there(section, 3 * q);
         let b = there(section, 3 * q + 1);
         let c = there(section, 3 * q + 2);
@@ -112,7 +111,6 @@ fn put_groups(section: &[u8], out: &mut [u8], n: usize)
         out[4 * q + 1] = second;
         out[4 * q + 2] = third;
         out[4 * q + 3] = fourth;
-        q += 1;
     }
 }
 

@@ -1,19 +1,16 @@
 -- `text_writing::encode::put_groups` meets its contract. The loop's invariant: the characters of the groups passed fill the front
--- of `out`, and the rest is as it was. The measure is what is left of `n`.
+-- of `out`, and the rest is as it was.
 -- Assumes nothing.
 use mathlib.Core.Path.{refl, ◌∙◌}
 use Prim.Native.Nat.{◌+◌, ◌*◌}
 use native.Mathlib.Omega.{arith}
-use lib.ListN.{length-set}
 use Rattle.base64_rules.specs.Base64.{character_at}
 use Rattle.base64_rules.proofs.Fill.{fill_none, fill_same, fill_more}
 use Rattle.text_writing.proofs.Letters.{first_letter, second_letter, third_letter, fourth_letter}
 use Rattle.text_writing.proofs.encode.put_groups.Goals as goal
 
 pub loop-q-init : goal.loop-q-init
-loop-q-init c =
-    let start = c.args in
-    (omega arith, refl, fill_none (character_at start.section.now) start.out.now)
+loop-q-init c = fill_none (character_at c.args.section.now) c.args.out.now
 
 pub loop-q-preserved : goal.loop-q-preserved
 loop-q-preserved c =
@@ -25,7 +22,7 @@ loop-q-preserved c =
     let d = c.there-c.ensures in
     let fill = fill_more (character_at s) start.out.now in
     let first =
-    fill _ (4 * q) (4 * q + 1) _ refl (omega arith) c.loop-q.invariant.2
+    fill _ (4 * q) (4 * q + 1) _ refl (omega arith) c.loop-q.invariant
     (c.character-first.ensures ∙ first_letter s q _ a.0 a.1 (omega arith)) in
     let second =
     fill _ (4 * q + 1) (4 * q + 2) _ (omega arith) (omega arith) first
@@ -36,7 +33,7 @@ loop-q-preserved c =
     let fourth =
     fill _ (4 * q + 3) (4 * (q + 1)) _ (omega arith) (omega arith) third
     (c.character-fourth.ensures ∙ fourth_letter s q _ d.0 d.1 (omega arith)) in
-    (omega arith, simp length-set c.loop-q.invariant.1, fourth)
+    fourth
 
 pub returns : goal.returns
-returns c = fill_same (character_at c.args.section.now) _ _ _ _ (omega arith) c.loop-q.invariant.2
+returns c = fill_same (character_at c.args.section.now) _ _ _ _ (omega arith) c.loop-q.invariant
