@@ -49,8 +49,8 @@ fn group(text: &[u8], n: usize, at: usize) -> u64
         plain(text, n, at + 3),
     ];
     let mut v: u64 = 0;
-    for k in 0..4 {
-        v = v * 64 + base64_rules::six(four[k]);
+    for c in four {
+        v = v * 64 + base64_rules::six(c);
     }
     v
 }
@@ -69,8 +69,7 @@ fn put_groups(text: &[u8], n: usize, own: &mut [u8]) -> bool
     ensures { (result ≡ all_of (take (before text.now) text.now)) × (result ≡ true → own.new ≡ memory 0 (bytes_of (text_bit text.now) (3 * (length text.now / 4))) own.old) }
 {
     let groups = text.len() / 4;
-    let mut q = 0;
-    while q < groups {
+    for q in 0..groups {
         let v = group(text, n, 4 * q);
         if OUTSIDE <= v {
             return false;
@@ -78,7 +77,6 @@ fn put_groups(text: &[u8], n: usize, own: &mut [u8]) -> bool
         own[3 * q] = low(v / 65536);
         own[3 * q + 1] = low(v / 256);
         own[3 * q + 2] = low(v);
-        q += 1;
     }
     true
 }

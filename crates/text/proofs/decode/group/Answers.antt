@@ -1,5 +1,4 @@
--- `text::decode::group` meets its contract. The loop's invariant: v is what the characters passed make. The measure is what is
--- left of the four.
+-- `text::decode::group` meets its contract. The loop's invariant: v is what the characters passed make.
 -- Assumes nothing.
 use mathlib.Core.Path.{refl, sym, ap, ◌∙◌}
 use Prim.Native.Nat.{◌+◌}
@@ -9,30 +8,30 @@ use Rattle.text.specs.Groups.{plain, worth}
 use Rattle.text.proofs.Groups.{worth_none, worth_more, room, laid, plain_in}
 use Rattle.text.proofs.decode.group.Goals as goal
 
-pub loop-k-init : goal.loop-k-init
-loop-k-init c = (omega arith, worth_none _ _)
+pub loop-c-init : goal.loop-c-init
+loop-c-init c = worth_none _ _
 
 pub overflow_mul-v : goal.overflow_mul-v
 overflow_mul-v c =
     let start = c.args in
     omega
-    (arith, room (plain start.text.now start.n) start.at c.loop-k.k _ _ 65 (omega arith) c.loop-k.invariant.1 refl)
+    (arith, room (plain start.text.now start.n) start.at c.loop-c.c-index _ _ 65 (omega arith) c.loop-c.invariant refl)
 
 pub overflow_add-v : goal.overflow_add-v
 overflow_add-v c =
     let start = c.args in
     omega
-    (arith, room (plain start.text.now start.n) start.at c.loop-k.k _ _ _ (omega arith) c.loop-k.invariant.1 c.six.ensures)
+    (arith, room (plain start.text.now start.n) start.at c.loop-c.c-index _ _ _ (omega arith) c.loop-c.invariant c.six.ensures)
 
-pub loop-k-preserved : goal.loop-k-preserved
-loop-k-preserved c =
+pub loop-c-preserved : goal.loop-c-preserved
+loop-c-preserved c =
     let start = c.args in
     let in-text = plain_in start.text.now start.n in
     let here =
     laid (plain start.text.now start.n) start.at _ _ _ _ (sym (in-text start.at (omega arith))) (sym (in-text (start.at + 1) (omega arith)))
     c.plain.ensures c.plain-2.ensures
-    c.loop-k.k (omega arith) in
-    (omega arith, worth_more _ _ _ _ _ c.loop-k.invariant.1 (c.six.ensures ∙ ap six here))
+    c.loop-c.c-index (omega arith) in
+    worth_more _ _ _ _ _ c.loop-c.invariant (c.six.ensures ∙ ap six here)
 
 pub returns : goal.returns
-returns c = c.loop-k.invariant.1 ∙ ap (worth _ _) (omega arith)
+returns c = c.loop-c.invariant ∙ ap (worth _ _) (omega arith)

@@ -1,5 +1,5 @@
 -- `text::decode::put_groups` meets its contract. The loop's invariant: every character passed is of the alphabet, the bytes of the
--- groups passed fill the front of `own`, and the rest is as it was. The measure is what is left of the groups.
+-- groups passed fill the front of `own`, and the rest is as it was.
 -- Assumes nothing.
 use mathlib.Core.Path.{refl, sym, ◌∙◌}
 use mathlib.Core.Bool.{false≢true}
@@ -20,7 +20,7 @@ use Rattle.text.proofs.decode.put_groups.Goals as goal
 pub loop-q-init : goal.loop-q-init
 loop-q-init c =
     let start = c.args in
-    (omega arith, (λ i l. absurd (omega arith)), refl, fill_none (byte_of (text_bit start.text.now)) start.own.now)
+    ((λ i l. absurd (omega arith)), fill_none (byte_of (text_bit start.text.now)) start.own.now)
 
 pub group-v-requires : goal.group-v-requires
 unfolding before
@@ -51,7 +51,7 @@ loop-q-preserved c =
     let fill = fill_more (byte_of (text_bit text)) c.args.own.now in
     let byte = byte_cut text q group.result in
     let first =
-    fill _ (3 * q) (3 * q + 1) _ refl (omega arith) at.invariant.3
+    fill _ (3 * q) (3 * q + 1) _ refl (omega arith) at.invariant.1
     (c.low.ensures ∙ byte (3 * q) 0 16 _ low_bits refl (omega arith) refl) in
     let second =
     fill _ (3 * q + 1) (3 * q + 2) _ (omega arith) (omega arith) first
@@ -59,14 +59,14 @@ loop-q-preserved c =
     let third =
     fill _ (3 * q + 2) (3 * (q + 1)) _ (omega arith) (omega arith) second
     (c.low-in-loop-q-2.ensures ∙ byte (3 * q + 2) 16 0 _ low_bits refl (omega arith) (omega arith)) in
-    (omega arith, passed text c.args.n c.requires.1 q at.invariant.1 (omega (arith, group.ensures)), simp length-set at.invariant.2, third)
+    (passed text c.args.n c.requires.1 q at.invariant.0 (omega (arith, group.ensures)), third)
 
 pub returns : goal.returns
 unfolding bytes_of
 returns c =
     let text = c.args.text.now in
     let all : (i : ℕ) → i < before text → sextet (get_or text i 0) < 64 =
-    λ i l. c.loop-q.invariant.1 i (omega (arith, before_le text)) (omega arith) in (
+    λ i l. c.loop-q.invariant.0 i (omega (arith, before_le text)) (omega arith) in (
       sym (all_each text (before text) (before_le text) all),
-      λ e. fill_same (byte_of (text_bit text)) _ _ _ _ (omega arith) c.loop-q.invariant.3,
+      λ e. fill_same (byte_of (text_bit text)) _ _ _ _ (omega arith) c.loop-q.invariant.1,
     )
