@@ -13,9 +13,8 @@ use Rattle.grammar.proofs.Run.{swept, swept_on, swept_off}
 use Rattle.grammar.proofs.Places.{octet}
 use Rattle.descriptors.specs.declared.Cursor.{Cursor}
 use Rattle.descriptors.specs.declared.Kind.{Kind}
-use Rattle.descriptors.specs.declared.Step.{Step}
-use Rattle.descriptors.specs.declared.Step.TheVariants.{Descriptor, Done, Broken}
-use Rattle.descriptors.specs.Walk.{kind_of, step_of}
+use Rattle.descriptors.specs.Walk.{Step, kind_of, step_of}
+use Rattle.std.specs.Prelude.{Some, None, Ok, Err}
 use Rattle.descriptors.proofs.Walk.{Stepped, stepped, stuck, at_end, descriptor_end}
 
 -- descriptors fill the loop from its cursor on, and it lies within the bytes
@@ -28,7 +27,7 @@ following s c = record { at = c.at + 2 + get_or s (c.at + 1) 0; end = c.end }
 
 -- what stands before the loop's end
 pub record Going (s : List ℕ) (c : Cursor) : Type 0 where
-  pub steps : step_of s c ≡ Descriptor (kind_of s c.at) (following s c)
+  pub steps : step_of s c ≡ Ok (Some (kind_of s c.at, following s c))
   pub filled : Filled s (following s c)
   pub inside : (following s c).at ≤ c.end
 
@@ -52,15 +51,15 @@ module _ (s : List ℕ) (hs : AreBytes s) (c : Cursor) where
       g = run splice_descriptor [] (bit s) (8 * c.end)
 
       go : (σ : Step) → step_of s c ≡ σ → Going s c
-      go Done q = absurd (omega (arith, at_end s c q))
-      go Broken q =
-          let held = stuck s c q h.0 in
+      go (Ok None) q = absurd (omega (arith, at_end s c q))
+      go (Err refusal) q =
+          let held = stuck s c refusal q h.0 in
           no_breach (sym (swept_off g (8 * c.end) (8 * c.at) 0 (omega arith) (held.breaks [])) ∙ h.1)
-      go (Descriptor kind next) q =
+      go (Ok (Some (kind, next))) q =
           let step = stepped s c kind next q in
           let same = by_length kind next step in
           record {
-            steps = q ∙ λ i. Descriptor (step.kind_is i) (same i);
+            steps = q ∙ λ i. Ok (Some (step.kind_is i, same i));
             filled = (
               h.0,
               sym (swept_on g (8 * c.end) (8 * c.at) (8 * (following s c).at) (omega arith)

@@ -17,9 +17,8 @@ use Rattle.grammar.specs.Tables.{avail_descriptor, dtmf_descriptor, delivery, se
 use Rattle.grammar.specs.Traces.{trace_of}
 use Rattle.grammar.proofs.Ends.{sweep_over, sweep_more}
 use Rattle.descriptors.specs.declared.Cursor.{Cursor}
-use Rattle.descriptors.specs.declared.Step.{Step}
-use Rattle.descriptors.specs.declared.Step.TheVariants.{Descriptor, Done, Broken}
-use Rattle.descriptors.specs.Walk.{step_of}
+use Rattle.descriptors.specs.Walk.{Step, step_of}
+use Rattle.std.specs.Prelude.{Some, None, Ok, Err}
 use Rattle.descriptors.specs.Loop.{on_step, walk, walked, trace_at, traces_at}
 use Rattle.descriptors.proofs.Walk.{stepped, stuck, at_end}
 use Rattle.grammar.proofs.Scope.{scoped, same_read}
@@ -97,11 +96,11 @@ module _ (s : List ℕ) (env : Env) (end : ℕ) (fits : end ≤ length s) where
 
       go : ((d : Cursor) (i : ℕ) (u : List (Item × ℕ)) → d.end ≡ end → end - d.at ≤ n → sweeping d ≡ reached i u → u ≡ traces_at s (walk n s d))
           → (σ : Step) → step_of s c ≡ σ → t ≡ traces_at s (on_step (step_of s c) c (walk n s))
-      go rest Done q = over c j t (omega (arith, at_end s c q)) e ∙ sym (ap (λ (σ : Step). traces_at s (on_step σ c (walk n s))) q)
-      go rest Broken q =
-          let held = stuck s c q (omega arith) in
+      go rest (Ok None) q = over c j t (omega (arith, at_end s c q)) e ∙ sym (ap (λ (σ : Step). traces_at s (on_step σ c (walk n s))) q)
+      go rest (Err refusal) q =
+          let held = stuck s c refusal q (omega arith) in
           absurd (off c j t (omega (arith, held.before_end)) (ran (breach 0) (held.breaks env)) e)
-      go rest (Descriptor kind next) q =
+      go rest (Ok (Some (kind, next))) q =
           let step = stepped s c kind next q in
           let parts = on c next.at j t step.further (omega (arith, step.inside)) (ran (ends (8 * next.at)) (step.runs_to env)) e in
           parts.1

@@ -13,7 +13,8 @@ use Rattle.grammar.proofs.Run.{Runs, pass, short, finished, framed_all, framed_l
 use Rattle.grammar.proofs.Places.{octet}
 use Rattle.descriptors.specs.declared.Cursor.{Cursor}
 use Rattle.descriptors.specs.declared.Kind.{Kind}
-use Rattle.descriptors.specs.declared.Step.TheVariants.{Descriptor, Broken}
+use Rattle.std.specs.Prelude.{Some, Ok, Err}
+use Rattle.units.specs.declared.refusals.Refusal.{Refusal}
 use Rattle.descriptors.specs.Walk.{kind_of, table_of, step_of}
 use Rattle.descriptors.proofs.ByKind.{by_kind}
 use Rattle.descriptors.proofs.Walk.{broken_off, descriptor_at_lem}
@@ -27,7 +28,7 @@ abbrev pub BodyRun : List ℕ → Cursor → Kind → Outcome → Type 0
 BodyRun s c kind o = (env : Env) → Runs (table_of kind) env (bit s) (8 * next s c) (8 * (c.at + 6)) o
 
 module _ (s : List ℕ) (c : Cursor) (some : c.at < c.end) (fits : c.end ≤ length s) where
-  pub no_rows : c.end - c.at < 2 → step_of s c ≡ Broken
+  pub no_rows : c.end - c.at < 2 → step_of s c ≡ Err Refusal.Descriptor
   unfolding splice_descriptor
   no_rows h = broken_off s c some fits (short (omega arith))
 
@@ -39,12 +40,12 @@ module _ (s : List ℕ) (c : Cursor) (some : c.at < c.end) (fits : c.end ≤ len
     body_end : 8 * c.at + 16 + 8 * num (bit s) (8 * c.at + 8) 8 ≡ 8 * next s c
     body_end = omega (arith, length_byte)
 
-    pub body_cut : c.end - c.at - 2 < get_or s (c.at + 1) 0 → step_of s c ≡ Broken
+    pub body_cut : c.end - c.at - 2 < get_or s (c.at + 1) 0 → step_of s c ≡ Err Refusal.Descriptor
     unfolding splice_descriptor
     body_cut h = broken_off s c some fits (pass (omega arith) (frame_short (omega (arith, body_end))))
 
     module _ (whole : get_or s (c.at + 1) 0 ≤ c.end - c.at - 2) where
-      pub no_identifier : get_or s (c.at + 1) 0 < 4 → step_of s c ≡ Broken
+      pub no_identifier : get_or s (c.at + 1) 0 < 4 → step_of s c ≡ Err Refusal.Descriptor
       unfolding splice_descriptor
       no_identifier h = broken_off s c some fits (pass (omega arith) (framed_off body_end (omega arith) (short (omega arith))))
 
@@ -59,20 +60,20 @@ module _ (s : List ℕ) (c : Cursor) (some : c.at < c.end) (fits : c.end ≤ len
             let place : 8 * c.at + 16 + 32 ≡ 8 * (c.at + 6) = omega arith in
             by_kind s c.at (same ∙ ap (λ (k : ℕ). num (bit s) k 32) first) tag told (at_place place (r _))
 
-        pub used_up : (n : ℕ) → BodyRun s c kind (ends (8 * n)) → n ≡ next s c → step_of s c ≡ Descriptor kind (record { at = next s c; end = c.end })
+        pub used_up : (n : ℕ) → BodyRun s c kind (ends (8 * n)) → n ≡ next s c → step_of s c ≡ Ok (Some (kind, record { at = next s c; end = c.end }))
         unfolding splice_descriptor
         used_up n r e =
             let step : Runs splice_descriptor [] (bit s) (8 * c.end) (8 * c.at) (ends (8 * next s c)) =
             pass (omega arith)
             (framed_all body_end (omega arith)
             (pass (omega arith) (becomes (body r refl refl) (ap (λ (x : ℕ). ends (8 * x)) e))) (finished refl)) in
-            descriptor_at_lem s c (next s c) some fits step ∙ ap (λ (k : Kind). Descriptor k (record { at = next s c; end = c.end })) (sym told)
+            descriptor_at_lem s c (next s c) some fits step ∙ ap (λ (k : Kind). Ok (Some (k, record { at = next s c; end = c.end }))) (sym told)
 
-        pub left_over : (n : ℕ) → BodyRun s c kind (ends (8 * n)) → (n ≡ next s c → ⊥) → step_of s c ≡ Broken
+        pub left_over : (n : ℕ) → BodyRun s c kind (ends (8 * n)) → (n ≡ next s c → ⊥) → step_of s c ≡ Err Refusal.Descriptor
         unfolding splice_descriptor
         left_over n r h =
             broken_off s c some fits (pass (omega arith) (framed_left body_end (omega arith) (pass (omega arith) (body r refl refl)) (λ e. h (omega arith))))
 
-        pub body_breaks : BodyRun s c kind (breach 0) → step_of s c ≡ Broken
+        pub body_breaks : BodyRun s c kind (breach 0) → step_of s c ≡ Err Refusal.Descriptor
         unfolding splice_descriptor
         body_breaks r = broken_off s c some fits (pass (omega arith) (framed_off body_end (omega arith) (pass (omega arith) (body r refl refl))))

@@ -1,20 +1,18 @@
 -- The descriptors of a loop, as the walk from a cursor finds them, and what was read of them.
 -- Assumes nothing.
-use Rattle.std.specs.Prelude.{ℕ, zero, suc, ◌-◌, ◌*◌, List, [], ◌∷◌, ◌++◌}
+use Rattle.std.specs.Prelude.{ℕ, zero, suc, ◌-◌, ◌*◌, List, [], ◌∷◌, ◌++◌, Some, None, Ok, Err}
 use Rattle.bits.specs.Bits.{bit}
 use Rattle.grammar.specs.Meaning.{read}
 use Rattle.grammar.specs.Tables.{splice_descriptor}
 use Rattle.grammar.specs.Traces.{Trace, trace_of}
 use Rattle.descriptors.specs.declared.Cursor.{Cursor}
-use Rattle.descriptors.specs.declared.Step.{Step}
-use Rattle.descriptors.specs.declared.Step.TheVariants.{Descriptor, Done, Broken}
-use Rattle.descriptors.specs.Walk.{step_of}
+use Rattle.descriptors.specs.Walk.{Step, step_of}
 
 -- a cursor with a descriptor, and on from the next one; nothing where there is none
 unfoldable pub on_step : Step → Cursor → (Cursor → List Cursor) → List Cursor
-on_step (Descriptor kind next) c more = c ∷ more next
-on_step Done c more = []
-on_step Broken c more = []
+on_step (Ok (Some (kind, next))) c more = c ∷ more next
+on_step (Ok None) c more = []
+on_step (Err refusal) c more = []
 
 -- the cursors at which a descriptor stands, in order, by at most n steps
 unfoldable pub walk : ℕ → List ℕ → Cursor → List Cursor

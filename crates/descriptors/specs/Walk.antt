@@ -1,6 +1,7 @@
 -- The walk over the descriptor loop: which descriptor stands at a cursor, and where the next one starts.
 -- Assumes nothing.
-use Rattle.std.specs.Prelude.{ℕ, ◌+◌, ◌*◌, ◌/◌, cond, List, [], length, leb, ltb, eqb}
+use Rattle.std.specs.Prelude.{ℕ, ◌+◌, ◌*◌, ◌/◌, cond, List, [], length, leb, ltb, eqb, Option, Some, None, Result, Ok, Err}
+use Rattle.units.specs.declared.refusals.Refusal.{Refusal}
 use Rattle.bits.specs.Bits.{bit, num}
 use Rattle.grammar.specs.Meaning.{Outcome, breach, ends, run}
 use Rattle.grammar.specs.Syntax.{Prog}
@@ -8,8 +9,6 @@ use Rattle.grammar.specs.Tables.{bytes, avail_descriptor, dtmf_descriptor, segme
 use Rattle.descriptors.specs.declared.Cursor.{Cursor}
 use Rattle.descriptors.specs.declared.Kind.{Kind}
 use Rattle.descriptors.specs.declared.Kind.TheVariants.{Avail, Dtmf, Segmentation, Time, Audio, Unknown}
-use Rattle.descriptors.specs.declared.Step.{Step}
-use Rattle.descriptors.specs.declared.Step.TheVariants.{Descriptor, Done, Broken}
 
 -- Table 16: the kind of a descriptor with the identifier "CUEI", by its tag
 unfoldable pub by_tag : ℕ → Kind
@@ -20,16 +19,20 @@ by_tag t =
 unfoldable pub kind_of : List ℕ → ℕ → Kind
 kind_of s at = cond (eqb (num (bit s) (8 * (at + 2)) 32) 0x43554549) (by_tag (num (bit s) (8 * at) 8)) Unknown
 
+-- what a step answers: a descriptor's kind and the cursor after it, nothing, or a refusal
+abbrev pub Step : Type 0
+Step = Result (Option (Kind × Cursor)) Refusal
+
 -- what a step answers for a descriptor that ends as the outcome says
 unfoldable pub found : List ℕ → Cursor → Outcome → Step
-found s c (breach n) = Broken
-found s c (ends k) = Descriptor (kind_of s c.at) (record { at = k / 8; end = c.end })
+found s c (breach n) = Err Refusal.Descriptor
+found s c (ends k) = Ok (Some (kind_of s c.at, record { at = k / 8; end = c.end }))
 
--- nothing is left: Done; the loop reaches past the bytes, or the descriptor at the cursor breaks its table: Broken; else the descriptor's kind and the cursor after it
+-- nothing is left: Ok None; the loop reaches past the bytes, or the descriptor at the cursor breaks its table: refused; else the descriptor's kind and the cursor after it
 unfoldable pub step_of : List ℕ → Cursor → Step
 step_of s c =
-    cond (leb c.end c.at) Done
-    (cond (ltb (length s) c.end) Broken
+    cond (leb c.end c.at) (Ok None)
+    (cond (ltb (length s) c.end) (Err Refusal.Descriptor)
     (found s c (run splice_descriptor [] (bit s) (8 * c.end) (8 * c.at))))
 
 -- ---- for a private function

@@ -10,8 +10,8 @@ ghost use Rattle.grammar.specs.Ended.{outcome};
 ghost use Rattle.grammar.proofs.Run.{Runs};
 ghost use Rattle.descriptors.specs.Walk.{kind_of, table_of, step_of};
 
-use grammar::Ended;
 pub use segmentation::is_sub_segmented;
+use units::Refusal;
 
 // "CUEI", the identifier of the standard's own descriptors.
 const CUEI: u64 = 0x43554549;
@@ -24,7 +24,7 @@ pub struct Cursor {
 }
 
 // Which table a descriptor follows.
-#[derive(Clone, Copy)]
+#[derive(Clone, Copy, PartialEq, Eq)]
 pub enum Kind {
     Avail,
     Dtmf,
@@ -34,51 +34,36 @@ pub enum Kind {
     Unknown,
 }
 
-// What stands at a cursor.
-#[derive(Clone, Copy)]
-pub enum Step {
-    // A descriptor, and the cursor after it.
-    Descriptor(Kind, Cursor),
-    // Nothing is left.
-    Done,
-    // The loop reaches past the bytes, or the descriptor breaks its table.
-    Broken,
-}
-
 impl Cursor {
-    pub fn step(self, s: &[u8]) -> Step
+    // The descriptor that stands here, and the cursor after it; `None` where nothing is left. Refused where the loop reaches past the
+    // bytes, or the descriptor breaks its table.
+    pub fn step(self, s: &[u8]) -> Result<Option<(Kind, Cursor)>, Refusal>
         ensures { result ≡ step_of s.now self }
     {
-        let at = self.at;
-        let end = self.end;
+        let Cursor { at, end } = self;
         if end <= at {
-            return Step::Done;
+            return Ok(None);
         }
         if s.len() < end {
-            return Step::Broken;
+            return Err(Refusal::Descriptor);
         }
         if end - at < 2 {
-            return Step::Broken;
+            return Err(Refusal::Descriptor);
         }
         let descriptor_length = s[at + 1] as usize;
         if end - at - 2 < descriptor_length {
-            return Step::Broken;
+            return Err(Refusal::Descriptor);
         }
         if descriptor_length < 4 {
-            return Step::Broken;
+            return Err(Refusal::Descriptor);
         }
         let next = at + 2 + descriptor_length;
         let kind = kind_at(s, at);
-        match descriptor(s, at + 6, next, kind) {
-            Ended::At(n) => {
-                if n == next {
-                    Step::Descriptor(kind, Cursor { at: next, end })
-                } else {
-                    Step::Broken
-                }
-            }
-            Ended::Broken => Step::Broken,
+        let n = descriptor(s, at + 6, next, kind).ok_or(Refusal::Descriptor)?;
+        if n != next {
+            return Err(Refusal::Descriptor);
         }
+        Ok(Some((kind, Cursor { at: next, end })))
     }
 }
 
@@ -121,7 +106,7 @@ fn identifier(s: &[u8], at: usize) -> u64
 }
 
 // A descriptor of that kind, after the identifier.
-fn descriptor(s: &[u8], at: usize, end: usize, kind: Kind) -> Ended
+fn descriptor(s: &[u8], at: usize, end: usize, kind: Kind) -> Option<usize>
     requires { (at ≤ end) × (end ≤ length s.now) }
     ensures { (env : Env) → Runs (table_of kind) env (bit s.now) (8 * end) (8 * at) (outcome result) }
 {
@@ -131,58 +116,58 @@ fn descriptor(s: &[u8], at: usize, end: usize, kind: Kind) -> Ended
         Kind::Segmentation => segmentation::segmentation_descriptor(s, at, end),
         Kind::Time => time_descriptor(at, end),
         Kind::Audio => audio_descriptor(s, at, end),
-        Kind::Unknown => Ended::At(end),
+        Kind::Unknown => Some(end),
     }
 }
 
 // Table 18, after the identifier.
-fn avail_descriptor(at: usize, end: usize) -> Ended
+fn avail_descriptor(at: usize, end: usize) -> Option<usize>
     requires { at ≤ end }
     ensures { (env : Env) (f : ℕ → ℕ) → Runs avail_descriptor env f (8 * end) (8 * at) (outcome result) }
 {
     if end - at < 4 {
-        return Ended::Broken;
+        return None;
     }
-    Ended::At(at + 4)
+    Some(at + 4)
 }
 
 // Table 19, after the identifier.
-fn dtmf_descriptor(s: &[u8], at: usize, end: usize) -> Ended
+fn dtmf_descriptor(s: &[u8], at: usize, end: usize) -> Option<usize>
     requires { (at ≤ end) × (end ≤ length s.now) }
     ensures { (env : Env) → Runs dtmf_descriptor env (bit s.now) (8 * end) (8 * at) (outcome result) }
 {
     if end - at < 2 {
-        return Ended::Broken;
+        return None;
     }
     let dtmf_count = (s[at + 1] / 32) as usize;
     if end - at - 2 < dtmf_count {
-        return Ended::Broken;
+        return None;
     }
-    Ended::At(at + 2 + dtmf_count)
+    Some(at + 2 + dtmf_count)
 }
 
 // Table 27, after the identifier.
-fn time_descriptor(at: usize, end: usize) -> Ended
+fn time_descriptor(at: usize, end: usize) -> Option<usize>
     requires { at ≤ end }
     ensures { (env : Env) (f : ℕ → ℕ) → Runs time_descriptor env f (8 * end) (8 * at) (outcome result) }
 {
     if end - at < 12 {
-        return Ended::Broken;
+        return None;
     }
-    Ended::At(at + 12)
+    Some(at + 12)
 }
 
 // Table 28, after the identifier.
-fn audio_descriptor(s: &[u8], at: usize, end: usize) -> Ended
+fn audio_descriptor(s: &[u8], at: usize, end: usize) -> Option<usize>
     requires { (at ≤ end) × (end ≤ length s.now) }
     ensures { (env : Env) → Runs audio_descriptor env (bit s.now) (8 * end) (8 * at) (outcome result) }
 {
     if end - at < 1 {
-        return Ended::Broken;
+        return None;
     }
     let audio_count = (s[at] / 16) as usize;
     if end - at - 1 < 5 * audio_count {
-        return Ended::Broken;
+        return None;
     }
-    Ended::At(at + 1 + 5 * audio_count)
+    Some(at + 1 + 5 * audio_count)
 }
