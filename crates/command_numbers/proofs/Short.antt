@@ -4,6 +4,7 @@ use Prim.Native.Nat.{◌≤◌}
 use native.Mathlib.Omega.{arith}
 use lib.Dec.{lit≤}
 use lib.ListN.{length, length-append}
+use Rattle.std.specs.Prelude.{Option, Some, None}
 use Rattle.command_reading.specs.declared.answers.SpliceTime.{SpliceTime}
 use Rattle.command_reading.specs.declared.answers.BreakDuration.{BreakDuration}
 use Rattle.command_reading.specs.declared.answers.Avails.{Avails}
@@ -14,9 +15,9 @@ time_short SpliceTime.Immediate = lit≤ tt
 time_short SpliceTime.NotGiven = lit≤ tt
 time_short (SpliceTime.Given t) = lit≤ tt
 
-pub break_short : (x : BreakDuration) → length (break_numbers x) ≤ 3
-break_short BreakDuration.Absent = lit≤ tt
-break_short (BreakDuration.Present auto t) = lit≤ tt
+pub break_short : (x : Option BreakDuration) → length (break_numbers x) ≤ 3
+break_short None = lit≤ tt
+break_short (Some b) = lit≤ tt
 
 pub avails_short : (x : Avails) → length (avails_numbers x) ≤ 6
 avails_short x = simp length-append (omega (arith, break_short x.break_duration))

@@ -6,8 +6,8 @@ ghost use Rattle.wire.specs.Given.{these, given, given_into};
 ghost use Rattle.wire.specs.Put.{put_place, put_into};
 ghost use Rattle.command_numbers.specs.Numbers.{time_numbers, avails_numbers};
 
-use command_reading::{Avails, BreakDuration, SpliceTime};
-use units::Written;
+use command_reading::{Avails, SpliceTime};
+use units::Refusal;
 
 // A time, put into the list from place at on, as wire::put does it: where it does not fit nothing is written.
 pub fn time(list: &mut [u64], at: usize, x: SpliceTime) -> usize
@@ -21,7 +21,7 @@ pub fn time(list: &mut [u64], at: usize, x: SpliceTime) -> usize
 }
 
 // A number and then a time, written to the front of out.
-pub fn give_timed(first: u64, x: SpliceTime, out: &mut [u64]) -> Written
+pub fn give_timed(first: u64, x: SpliceTime, out: &mut [u64]) -> Result<usize, Refusal>
     ensures { (result ≡ given (these (first ∷ time_numbers x)) out.old) × (out.new ≡ given_into (these (first ∷ time_numbers x)) out.old) }
 {
     let mut list = [0u64; 3];
@@ -34,22 +34,18 @@ pub fn give_timed(first: u64, x: SpliceTime, out: &mut [u64]) -> Written
 pub fn avails(list: &mut [u64], at: usize, x: Avails) -> usize
     ensures { (result ≡ put_place list.old at (avails_numbers x)) × (list.new ≡ put_into list.old at (avails_numbers x)) }
 {
-    let program = x.unique_program_id as u64;
-    let num = x.avail_num as u64;
-    let expected = x.avails_expected as u64;
-    let break_part = x.break_duration;
-    match break_part {
-        BreakDuration::Absent => wire::put(list, at, &[0, program, num, expected]),
-        BreakDuration::Present {
-            auto_return,
-            duration,
-        } => wire::put(
+    let program = u64::from(x.unique_program_id);
+    let num = u64::from(x.avail_num);
+    let expected = u64::from(x.avails_expected);
+    match x.break_duration {
+        None => wire::put(list, at, &[0, program, num, expected]),
+        Some(part) => wire::put(
             list,
             at,
             &[
                 1,
-                wire::flag(auto_return),
-                duration.0,
+                wire::flag(part.auto_return),
+                part.duration.0,
                 program,
                 num,
                 expected,

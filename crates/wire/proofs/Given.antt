@@ -46,3 +46,12 @@ by_number out r (suc n) e = (ap Err (sym (named_back r) ∙ ap named e), refl)
 
 pub not_given : (out : List ℕ) (r : Refusal) → (Err r ≡ given (refused (number_of r)) out) × (out ≡ given_into (refused (number_of r)) out)
 not_given out r = by_number out r (number_of r) refl
+
+-- the same, to rewrite by
+pub given_refused : (out : List ℕ) (r : Refusal) → given (refused (number_of r)) out ≡ Err r
+given_refused out r = sym (not_given out r).0
+
+pub given_into_refused : (out : List ℕ) (r : Refusal) → given_into (refused (number_of r)) out ≡ out
+given_into_refused out r = sym (not_given out r).1
+
+pub ruleset refusals = (given_refused, given_into_refused)

@@ -1,3 +1,4 @@
 pub mod Placed
 pub mod Given
 pub mod Handed
+pub mod Short

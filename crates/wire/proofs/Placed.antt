@@ -3,9 +3,10 @@
 pub use Rattle.units.proofs.Put.{copied, told, both, as_long, room, front, front_inside, front_count}
 use mathlib.Core.Path.{◌≡◌, sym, ap, ◌∙◌}
 use mathlib.Core.Bool.{Bool, true, false, cond}
-use mathlib.Core.List.{List}
+use mathlib.Core.List.{List, ◌++◌}
 use Prim.Native.Nat.{ℕ, ◌+◌, ◌≤◌, ◌<◌}
-use lib.ListN.{length}
+use native.Mathlib.Omega.{arith}
+use lib.ListN.{length, length-append}
 use lib.Seq.{sets}
 use borrow.Author.Tests.{le-leb, lt-leb}
 use Rattle.units.proofs.Put.{all_put, unchanged}
@@ -39,3 +40,8 @@ pub stands : {m : List ℕ} {i : ℕ} {ns : List ℕ} {j : ℕ} {l : List ℕ} �
 stands {m} {i} {ns} h q =
     let there = put_there m i ns h in
     record { place = q.0 ∙ sym there.0; list = q.1 ∙ sym there.1 }
+
+-- a part, and then another that has room too
+pub behind : {m : List ℕ} {i : ℕ} {u : List ℕ} {j : ℕ} {l : List ℕ} (v : List ℕ) {k : ℕ} {r : List ℕ} → Put m i u j l → i + length (u ++ v) ≤ length m
+    → (k ≡ put_place l j v) × (r ≡ put_into l j v) → Put m i (u ++ v) k r
+behind {u = u} v p h q = both p (stands (omega (arith, p.place, as_long p, length-append u v)) q)
