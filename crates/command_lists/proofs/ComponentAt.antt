@@ -6,6 +6,7 @@ use mathlib.Core.List.{List, [], ◌++◌}
 use mathlib.Core.Logic.{⊎_elim}
 use Prim.Native.Nat.{ℕ, ◌+◌, ◌*◌, ◌≤◌, ◌<◌}
 use native.Mathlib.Omega.{arith}
+use Rattle.std.specs.Prelude.{Ok, Err}
 use lib.ListN.{length}
 use lib.Dec.{eqb, ltb}
 use borrow.Author.Tests.{le-leb, eq-eqb, ne_eqb, eqb-false, le-ltb, lt-ltb}
@@ -23,7 +24,6 @@ use Rattle.grammar.proofs.Each.{every}
 use Rattle.grammar.proofs.Names.{Opens, opens, nth}
 use Rattle.commands.specs.Command.{known, table_of, component_place}
 use Rattle.command_reading.specs.declared.answers.SpliceTime.{SpliceTime}
-use Rattle.command_reading.specs.declared.answers.InsertComponent.{InsertComponent}
 use Rattle.command_reading.specs.Command.{command_reading, typed, command_trace, time_of}
 use Rattle.command_lists.specs.Lists.{insert_component_of}
 use Rattle.command_reading.specs.Places.{time_at}
@@ -35,7 +35,7 @@ use Rattle.command_lists.proofs.Component.{knowing, component_tells}
 use Rattle.command_lists.proofs.Components.{counted, one, Listed, Insert, insert_lists}
 
 -- where there is no command
-pub no_component : (s : List ℕ) (n : ℕ) → end_of (command_reading s) ≡ breach 0 → InsertComponent.Refused Refusal.NotHere ≡ insert_component_of (command_trace s) n
+pub no_component : (s : List ℕ) (n : ℕ) → end_of (command_reading s) ≡ breach 0 → Err Refusal.NotHere ≡ insert_component_of (command_trace s) n
 unfolding insert_component_of typed values look
 no_component s n e =
     sym (ap (λ (t : Trace). insert_component_of t n) (type_alone s e) ∙ rw (none_of (eqb (num (bit s) 104 8) 0x05) n))
@@ -48,7 +48,7 @@ opened s end k =
     (knowing (field_of s 155 1)) (bit s) (8 * end) k
 
 module _ (s : List ℕ) (end n : ℕ) (t : Trace) (e : command_reading s ≡ reached (8 * end) t) where
-  pub not_insert : (num (bit s) 104 8 ≡ 0x05 → ⊥) → InsertComponent.Refused Refusal.NotHere ≡ insert_component_of (command_trace s) n
+  pub not_insert : (num (bit s) 104 8 ≡ 0x05 → ⊥) → Err Refusal.NotHere ≡ insert_component_of (command_trace s) n
   unfolding insert_component_of typed values look
   not_insert h = sym (ap (λ (u : Trace). insert_component_of u n) (trace_is s end t e) ∙ rw (ne_eqb _ 0x05 h))
 
@@ -57,7 +57,7 @@ module _ (s : List ℕ) (end n : ℕ) (t : Trace) (e : command_reading s ≡ rea
     unfolding table_of
     told = given (insert_lists s (known s) (came s end t e).stop (fits s end t e)).tells (by_table s end t e 0x05 h) end refl
 
-    pub absent : counted s ≤ n → InsertComponent.Refused Refusal.NotHere ≡ insert_component_of (command_trace s) n
+    pub absent : counted s ≤ n → Err Refusal.NotHere ≡ insert_component_of (command_trace s) n
     unfolding insert_component_of typed values look
     absent l =
         let x = told in
@@ -90,7 +90,7 @@ module _ (s : List ℕ) (end n : ℕ) (t : Trace) (e : command_reading s ≡ rea
           absurd (omega arith)
 
       pub at_place : (at : ℕ) → component_place s 21 end n (field_of s 155 1) ≡ ends (8 * at)
-          → (at < length s) × (insert_component_at s at (flag_of s 155) ≡ insert_component_of (command_trace s) n)
+          → (at < length s) × (Ok (insert_component_at s at (flag_of s 155)) ≡ insert_component_of (command_trace s) n)
       unfolding insert_component_of insert_component_at typed values look
       at_place at q =
           let x = list in
@@ -107,5 +107,5 @@ module _ (s : List ℕ) (end n : ℕ) (t : Trace) (e : command_reading s ≡ rea
             omega arith,
             sym
                 (ap (λ (u : Trace). insert_component_of u n) (trace_is s end t e)
-                ∙ rw test (λ i. InsertComponent.Component (tag i) (later i))),
+                ∙ rw test (λ i. Ok (record { component_tag = tag i; time = later i }))),
           )

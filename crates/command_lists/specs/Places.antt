@@ -9,4 +9,4 @@ use Rattle.command_reading.specs.Places.{time_at}
 -- the component of an insert from byte `at` on
 unfoldable pub insert_component_at : List ℕ → ℕ → Bool → InsertComponent
 insert_component_at s at immediate =
-    InsertComponent.Component (field_of s (8 * at) 8) (cond immediate SpliceTime.Immediate (time_at s (at + 1)))
+    record { component_tag = field_of s (8 * at) 8; time = cond immediate SpliceTime.Immediate (time_at s (at + 1)) }

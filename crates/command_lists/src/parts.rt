@@ -9,17 +9,14 @@ pub(crate) fn insert_component(s: &[u8], at: usize, immediate: bool) -> InsertCo
     requires { at < length s.now }
     ensures { result ≡ insert_component_at s.now at immediate }
 {
-    let component_tag = bits::octet(s, at);
-    if immediate {
-        return InsertComponent::Component {
-            component_tag,
-            time: SpliceTime::Immediate,
-        };
-    }
-    let next = at + 1;
-    let time = command_reading::splice_time(&s[next..]);
-    InsertComponent::Component {
-        component_tag,
+    let time = if immediate {
+        SpliceTime::Immediate
+    } else {
+        let next = at + 1;
+        command_reading::splice_time(&s[next..])
+    };
+    InsertComponent {
+        component_tag: bits::octet(s, at),
         time,
     }
 }

@@ -4,17 +4,19 @@ use mathlib.Core.Path.{◌≡◌, refl, sym, ap, ◌∙◌}
 use mathlib.Core.List.{List, [], append-nil}
 use Prim.Native.Nat.{ℕ, ◌-◌, ◌*◌, ◌≤◌}
 use native.Mathlib.Omega.{arith}
-use Rattle.std.specs.Prelude.{Ok, Err}
+use Rattle.std.specs.Prelude.{Option, Some, Ok, Err}
 use lib.ListN.{length}
 use borrow.Author.Tests.{ne_eqb}
 use Rattle.bits.specs.Bits.{bit, num, field_of}
 use Rattle.units.specs.declared.refusals.Refusal.{Refusal}
+use Rattle.grammar.specs.Ended.{outcome}
 use Rattle.grammar.specs.Meaning.{Env, values, Reading, broken, reached, read, breach, end_of}
 use Rattle.grammar.specs.Tables.{bytes, private_command, splice_schedule}
 use Rattle.grammar.specs.Traces.{Trace, trace_of}
 use Rattle.grammar.specs.Names.{look, all_of}
 use Rattle.grammar.proofs.Ends.{given, ends_within}
 use Rattle.grammar.proofs.Names.{fields_length}
+use Rattle.grammar.proofs.Readings.{reached_at}
 use Rattle.grammar.proofs.Telling.{Tells, rows, some}
 use Rattle.commands.specs.Command.{known, table_of}
 use Rattle.command_reading.specs.declared.answers.Command.{Command}
@@ -35,6 +37,11 @@ refused s e = of (command_reading s) e
     of : (r : Reading) → end_of r ≡ breach 0 → Err Refusal.Command ≡ where_read r (command_of (command_trace s))
     of (broken n) q = refl
     of (reached k t) q = let z : ◌≡◌ {A = ℕ} 0 1 = cc in absurd (omega arith)
+
+-- where its end was found it was read up to there
+pub rows_to : (s : List ℕ) {o : Option ℕ} (end : ℕ) → outcome o ≡ end_of (command_reading s) → o ≡ Some end
+    → command_reading s ≡ reached (8 * end) (trace_of (command_reading s))
+rows_to s end e found = reached_at (command_reading s) (8 * end) (sym e ∙ ap outcome found)
 
 -- splice_schedule(): its first row
 count_tells : (s : List ℕ) (env : Env) (stop : ℕ) → Tells (λ j t. look t "splice_count" ≡ num (bit s) 112 8) splice_schedule env (bit s) stop 112

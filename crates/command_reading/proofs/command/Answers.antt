@@ -8,7 +8,6 @@ use Rattle.std.specs.Prelude.{Some, None, Ok}
 use Rattle.std.proofs.lemmas.Result.{err_from_is_err_and}
 use Rattle.units.specs.declared.refusals.Refusal.{Refusal}
 use lib.ListN.{length, get_or}
-use Rattle.grammar.proofs.Readings.{reached_at}
 use Rattle.bits.specs.Bits.{bit, num}
 use Rattle.bits.proofs.Fields.{field_lt}
 use Rattle.grammar.specs.Meaning.{reached}
@@ -18,7 +17,7 @@ use Rattle.grammar.proofs.Places.{octet}
 use Rattle.command_reading.specs.declared.answers.Command.{Command}
 use Rattle.command_reading.specs.declared.answers.SpliceTime.{SpliceTime}
 use Rattle.command_reading.specs.Command.{command_reading}
-use Rattle.command_reading.proofs.Said.{refused, bounds, null, schedule, insert, signal, reservation, private_rows, private_one, unread}
+use Rattle.command_reading.proofs.Said.{refused, rows_to, bounds, null, schedule, insert, signal, reservation, private_rows, private_one, unread}
 use Rattle.command_reading.proofs.Times.{time_from}
 use Rattle.command_reading.proofs.command.Goals as goal
 use Rattle.command_reading.proofs.command.Goals.{In_ok-end}
@@ -32,7 +31,7 @@ read_to : (c : In_ok-end) → command_reading c.args.s.now ≡ reached (8 * c.in
 unfolding rows
 read_to c =
     let found : c.end.result ≡ Some c.in_ok-end.end = grind arith in
-    reached_at (command_reading c.args.s.now) (8 * c.in_ok-end.end) (sym c.end.ensures ∙ ap outcome found)
+    rows_to c.args.s.now c.in_ok-end.end c.end.ensures found
 
 -- it ends before the CRC
 inside : (c : In_ok-end) → (20 ≤ length c.args.s.now) × (length c.args.s.now ≤ 4096) × (14 ≤ c.in_ok-end.end) × (c.in_ok-end.end ≤ length c.args.s.now - 4)
