@@ -19,7 +19,7 @@ use Rattle.grammar.specs.Meaning.{bind, Reading, broken, reached, read, end_of, 
 use Rattle.grammar.specs.Tables.{header, payload, splice_info_section}
 use Rattle.grammar.specs.Traces.{Trace}
 use Rattle.grammar.proofs.Numbered.{Numbered, payload_numbered}
-use Rattle.section.specs.declared.Verdict.TheVariants.{Accepted}
+use Rattle.std.specs.Prelude.{Ok}
 use Rattle.section.specs.Accept.{accept_rows, the, grammar_of, breaks, complete, accept_row, verdict, accept_of}
 use Rattle.section.proofs.Rows.{whole, sealed_whole, size, last_rows, own_row}
 
@@ -82,20 +82,20 @@ no_row s e =
     }
 
 -- only row 0, none, is the verdict that accepts
-pub row_0 : (n : ℕ) → verdict n ≡ Accepted → n ≡ 0
+pub row_0 : (n : ℕ) → verdict n ≡ Ok tt → n ≡ 0
 unfolding verdict
 row_0 zero e = refl
 row_0 (suc n) e = let z : ◌≡◌ {A = ℕ} 0 1 = cc in absurd (omega arith)
 
-pub accepted_row : (s : List ℕ) → accept_of s ≡ Accepted → accept_row s ≡ 0
+pub accepted_row : (s : List ℕ) → accept_of s ≡ Ok tt → accept_row s ≡ 0
 unfolding accept_of
 accepted_row s e = row_0 (accept_row s) e
 
-pub accepted : (s : List ℕ) → accept_of s ≡ Accepted → Allowed s
+pub accepted : (s : List ℕ) → accept_of s ≡ Ok tt → Allowed s
 accepted s e = no_row s (accepted_row s e)
 
 -- and the other way round: a section that the rows allow is accepted
-pub allowed : (s : List ℕ) → Allowed s → accept_of s ≡ Accepted
+pub allowed : (s : List ℕ) → Allowed s → accept_of s ≡ Ok tt
 unfolding accept_of accept_row verdict breaks complete
 allowed s a =
     let rows : Row (accept_rows s) 0 =
@@ -152,7 +152,7 @@ breach_told s n long e =
     (is.0, is.1, rows.told)
 
 -- the grammar reads a trace of an accepted section
-pub has_trace : (s : List ℕ) → accept_of s ≡ Accepted → (j : ℕ) × (t : Trace) × (read splice_info_section [] (bit s) (8 * (length s - 4)) 0 ≡ reached j t)
+pub has_trace : (s : List ℕ) → accept_of s ≡ Ok tt → (j : ℕ) × (t : Trace) × (read splice_info_section [] (bit s) (8 * (length s - 4)) 0 ≡ reached j t)
 unfolding grammar_of run end_of
 has_trace s e = of (read splice_info_section [] (bit s) (8 * (length s - 4)) 0) (accepted s e).reads
   where

@@ -20,8 +20,7 @@ use Rattle.grammar.proofs.Run.{Runs, pass, ruled}
 use Rattle.grammar.proofs.Within.{byte_within}
 use Rattle.commands.specs.Command.{known, command_end}
 use Rattle.descriptors.specs.declared.Cursor.{Cursor}
-use Rattle.section.specs.declared.Verdict.{Verdict}
-use Rattle.section.specs.declared.Judgement.{Judgement}
+use Rattle.std.specs.Prelude.{Option, Result, Ok, Err}
 use Rattle.section.specs.Accept.{the, accept_rows, accept_row, verdict, accept_of, grammar_of}
 use Rattle.section.specs.Judge.{loop_at, loop_from, judgement, judge_of, header_row, header_of}
 use Rattle.section.proofs.Rows.{last_rows}
@@ -41,11 +40,11 @@ front (suc k) (row ∷ rows) n e = by row.0 refl (front k rows n)
         ap (λ (t : Bool). cond t row.1 (first rows)) q ∙ rest (sym (ap (λ (t : Bool). cond t row.1 (first (take k rows))) q) ∙ e)
 
 module _ (s : List ℕ) where
-  pub refused_header : (r : Refusal) → header_of s ≡ Verdict.Refused r → accept_of s ≡ Verdict.Refused r
+  pub refused_header : (r : Refusal) → header_of s ≡ Err r → accept_of s ≡ Err r
   unfolding header_of header_row accept_of accept_row verdict
   refused_header r e = go (header_row s) refl e
     where
-      go : (n : ℕ) → header_row s ≡ n → verdict n ≡ Verdict.Refused r → accept_of s ≡ Verdict.Refused r
+      go : (n : ℕ) → header_row s ≡ n → verdict n ≡ Err r → accept_of s ≡ Err r
       go zero q h = let z : ◌≡◌ {A = ℕ} 0 1 = cc in absurd (omega arith)
       go (suc n) q h = ap verdict (front 7 (accept_rows s) n q) ∙ h
 
@@ -55,7 +54,7 @@ module _ (s : List ℕ) where
     pub fits : length s ≤ 4096
     pub left : {n : ℕ} → Row (last_rows (grammar_of s)) n → Row (accept_rows s) n
 
-  pub headed : header_of s ≡ Verdict.Accepted → Headed
+  pub headed : header_of s ≡ Ok tt → Headed
   unfolding header_of header_row
   headed e =
       let none-hit : Row (take 7 (accept_rows s)) 0 = record { row = row_0 (header_row s) e } in
@@ -108,15 +107,13 @@ module _ (s : List ℕ) (long : 20 ≤ length s) where
 
 -- ---- the verdict in a judgement
 
-abbrev pub verdict_in : Judgement → Verdict
-verdict_in (Judgement.Open c) = Verdict.Accepted
-verdict_in Judgement.Sealed = Verdict.Accepted
-verdict_in (Judgement.Refused r) = Verdict.Refused r
+abbrev pub verdict_in : Result (Option Cursor) Refusal → Result (Unit {0}) Refusal
+verdict_in (Ok found) = Ok tt
+verdict_in (Err r) = Err r
 
-stays : (v : Verdict) (sealed : Bool) (c : Cursor) → verdict_in (judgement v sealed c) ≡ v
-stays Verdict.Accepted true c = refl
-stays Verdict.Accepted false c = refl
-stays (Verdict.Refused r) sealed c = refl
+stays : (v : Result (Unit {0}) Refusal) (sealed : Bool) (c : Cursor) → verdict_in (judgement v sealed c) ≡ v
+stays (Ok u) sealed c = refl
+stays (Err r) sealed c = refl
 
 -- is that of acceptance
 pub same_verdict : (s : List ℕ) → verdict_in (judge_of s) ≡ accept_of s

@@ -16,11 +16,11 @@ use Rattle.grammar.proofs.Places.{flag_test, octet}
 use Rattle.grammar.specs.Meaning.{bind, run, Outcome, breach, ends}
 use Rattle.grammar.specs.Tables.{header, payload, splice_info_section}
 use Rattle.grammar.proofs.Run.{Runs, pass, yes_last, no_last, filled_last, swept_bytes}
-use Rattle.section.specs.declared.Verdict.{Verdict}
+use Rattle.std.specs.Prelude.{Result, Ok, Err}
+use Rattle.units.specs.declared.refusals.Refusal.{Refusal}
 use Rattle.units.specs.Refusals.{number_of, named}
 use Rattle.units.proofs.Numbers.{named_back}
 use Rattle.units.proofs.Rows.{Row, none, miss, hit}
-use Rattle.section.specs.declared.Verdict.TheVariants.{Accepted, Refused}
 use Rattle.section.specs.Accept.{the, grammar_of, breaks, complete, judged, IsGrammatical, verdict}
 
 pub size : (s : List ℕ) → the s "section_length" ≤ 4093 → the s "section_length" + 3 ≡ length s
@@ -118,14 +118,14 @@ own_row n l h =
     is m e r = record { row = r.row ∙ e }
 
 -- the verdict of a row is its refusal
-row_verdict : (n : ℕ) → 0 < n → verdict n ≡ Refused (named n)
+row_verdict : (n : ℕ) → 0 < n → verdict n ≡ Err (named n)
 unfolding verdict
 row_verdict zero h = absurd (omega arith)
 row_verdict (suc n) h = refl
 
 -- the row and the verdict that a verdict of the grammar's comes to
-pub last_row : (r : Verdict) (end : ℕ) → IsGrammatical r → (n : ℕ) × Row (last_rows (judged end r)) n × (r ≡ verdict n)
+pub last_row : (r : Result (Unit {0}) Refusal) (end : ℕ) → IsGrammatical r → (n : ℕ) × Row (last_rows (judged end r)) n × (r ≡ verdict n)
 unfolding breaks complete verdict
-last_row Accepted end h = (0, miss refl (miss refl (miss refl none)), refl)
-last_row (Refused x) end h =
-    (number_of x, own_row (number_of x) h.0 h.1, ap Refused (sym (named_back x)) ∙ sym (row_verdict (number_of x) (omega (arith, h.0))))
+last_row (Ok u) end h = (0, miss refl (miss refl (miss refl none)), refl)
+last_row (Err x) end h =
+    (number_of x, own_row (number_of x) h.0 h.1, ap Err (sym (named_back x)) ∙ sym (row_verdict (number_of x) (omega (arith, h.0))))

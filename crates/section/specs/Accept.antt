@@ -1,14 +1,13 @@
 -- When a section is accepted, and which row of paper 01's table refuses it otherwise.
 -- Assumes nothing.
-use Rattle.std.specs.Prelude.{ℕ, zero, suc, ◌+◌, ◌-◌, ◌*◌, ◌≤◌, Bool, true, false, not, ◌&&◌, ◌||◌, List, [], ◌∷◌, length, ltb, eqb}
+use Rattle.std.specs.Prelude.{ℕ, zero, suc, ◌+◌, ◌-◌, ◌*◌, ◌≤◌, Bool, true, false, not, ◌&&◌, ◌||◌, List, [], ◌∷◌, length, ltb, eqb, Result, Ok, Err}
 use Prim.Native.String.{String}
 use Rattle.bits.specs.Bits.{bit}
 use Rattle.crc.specs.Crc.{crc32}
+use Rattle.units.specs.declared.refusals.Refusal.{Refusal}
 use Rattle.units.specs.Refusals.{number_of, first, named}
 use Rattle.grammar.specs.Meaning.{value_of, bind, Outcome, breach, ends, run}
 use Rattle.grammar.specs.Tables.{header, splice_info_section}
-use Rattle.section.specs.declared.Verdict.{Verdict}
-use Rattle.section.specs.declared.Verdict.TheVariants.{Accepted, Refused}
 
 -- the value of a field of the section's header
 unfoldable pub the : List ℕ → String → ℕ
@@ -48,22 +47,22 @@ unfoldable pub accept_row : List ℕ → ℕ
 accept_row s = first (accept_rows s)
 
 -- the verdict for a row: no row, 0, accepts
-unfoldable pub verdict : ℕ → Verdict
-verdict zero = Accepted
-verdict (suc row) = Refused (named (suc row))
+unfoldable pub verdict : ℕ → Result (Unit {0}) Refusal
+verdict zero = Ok tt
+verdict (suc row) = Err (named (suc row))
 
 -- whether the section is accepted, or why not
-unfoldable pub accept_of : List ℕ → Verdict
+unfoldable pub accept_of : List ℕ → Result (Unit {0}) Refusal
 accept_of s = verdict (accept_row s)
 
 -- ---- for private functions
 
 -- a verdict on the rest of the section as the outcome of its run: accepted means read to the end
-abbrev pub judged : ℕ → Verdict → Outcome
-judged end Accepted = ends (8 * end)
-judged end (Refused r) = breach (number_of r)
+abbrev pub judged : ℕ → Result (Unit {0}) Refusal → Outcome
+judged end (Ok u) = ends (8 * end)
+judged end (Err r) = breach (number_of r)
 
 -- a verdict of the grammar's own: accepted, or one of rows 8 to 10
-abbrev pub IsGrammatical : Verdict → Type 0
-IsGrammatical Accepted = Unit {0}
-IsGrammatical (Refused r) = (8 ≤ number_of r) × (number_of r ≤ 10)
+abbrev pub IsGrammatical : Result (Unit {0}) Refusal → Type 0
+IsGrammatical (Ok u) = Unit {0}
+IsGrammatical (Err r) = (8 ≤ number_of r) × (number_of r ≤ 10)

@@ -12,14 +12,15 @@ use borrow.Author.Tests.{lt-ltb, le-ltb, ne_eqb}
 use Rattle.bits.proofs.Bytes.{AreBytes}
 use Rattle.crc.specs.Crc.{crc32}
 use Rattle.units.proofs.Rows.{Row, none, miss, hit}
-use Rattle.section.specs.declared.Verdict.{Verdict}
+use Rattle.std.specs.Prelude.{Result}
+use Rattle.units.specs.declared.refusals.Refusal.{Refusal}
 use Rattle.section.specs.Accept.{accept_rows, the, verdict}
 use Rattle.section.specs.Judge.{header_row, header_of}
 use Rattle.section.proofs.Rows.{table, no_table, syntax_clear, syntax_set, size, too_long, other_length, version_0, other_version, clear, sealed}
 use Rattle.section.proofs.header.Goals as goal
 
 -- a verdict is the one for the first row that applies
-decide : (s : List ℕ) {r : Verdict} (n : ℕ) → Row (take 7 (accept_rows s)) n → r ≡ verdict n → r ≡ header_of s
+decide : (s : List ℕ) {r : Result (Unit {0}) Refusal} (n : ℕ) → Row (take 7 (accept_rows s)) n → r ≡ verdict n → r ≡ header_of s
 unfolding header_of header_row
 decide s n row e = e ∙ ap verdict (sym row.row)
 
