@@ -10,14 +10,14 @@ use lib.ListN.{length}
 use Rattle.bits.proofs.Cases.{le_or_lt}
 use Rattle.descriptors.specs.declared.Cursor.{Cursor}
 use Rattle.descriptors.specs.declared.Kind.{Kind}
-use Rattle.descriptors.specs.declared.Step.{Step}
-use Rattle.descriptors.specs.Walk.{step_of}
+use Rattle.descriptors.specs.Walk.{Step, step_of}
 use Rattle.descriptors.specs.Loop.{walked, trace_at}
 use Rattle.descriptors.proofs.Walk.{nothing_left}
 use Rattle.known_walk.specs.Known.{is_known, known_among, known_cursors, nowhere, numbered, known_trace}
 use Rattle.known_walk.specs.Places.{Stands}
 use Rattle.known_walk.proofs.Stands.{stands}
 use Rattle.known_walk.proofs.KnownAmong.{less_left, known_first, unknown_first, none_left, none_whole, in_section, too_long, no_trace}
+use Rattle.std.specs.Prelude.{Some, None, Ok, Err}
 
 -- a known descriptor stands at each of these cursors
 abbrev pub AllStand : List ℕ → List Cursor → Type 0
@@ -29,16 +29,16 @@ all_walked : (n : ℕ) (s : List ℕ) (c : Cursor) → length s ≤ 4096 → c.e
 all_walked zero s c fits h = subst (AllStand s) (sym (none_left s c (nothing_left s c (omega arith)))) tt
 all_walked (suc n) s c fits h = go (all_walked n s) (step_of s c) refl
   where
-    known : (kind : Kind) (next : Cursor) (b : Bool) → is_known kind ≡ b → step_of s c ≡ Step.Descriptor kind next
+    known : (kind : Kind) (next : Cursor) (b : Bool) → is_known kind ≡ b → step_of s c ≡ Ok (Some (kind, next))
         → AllStand s (known_among s (walked s next)) → AllStand s (known_among s (walked s c))
     known kind next true k e later = subst (AllStand s) (sym (known_first s c kind next e k)) (stands s c kind next fits e k, later)
     known kind next false k e later = subst (AllStand s) (sym (unknown_first s c kind next e k)) later
 
     go : ((d : Cursor) → length s ≤ 4096 → d.end - d.at ≤ n → AllStand s (known_among s (walked s d))) → (σ : Step) → step_of s c ≡ σ
         → AllStand s (known_among s (walked s c))
-    go rest (Step.Descriptor kind next) e = known kind next (is_known kind) refl e (rest next fits (omega (arith, less_left s c kind next e)))
-    go rest Step.Done e = subst (AllStand s) (sym (none_left s c e)) tt
-    go rest Step.Broken e = subst (AllStand s) (sym (none_whole s c e)) tt
+    go rest (Ok (Some (kind, next))) e = known kind next (is_known kind) refl e (rest next fits (omega (arith, less_left s c kind next e)))
+    go rest (Ok None) e = subst (AllStand s) (sym (none_left s c e)) tt
+    go rest (Err refusal) e = subst (AllStand s) (sym (none_whole s c refusal e)) tt
 
 pub each_stands : (s : List ℕ) (c : Cursor) → AllStand s (known_cursors s c)
 each_stands s c =

@@ -12,11 +12,12 @@ use Rattle.grammar.specs.Tables.{splice_descriptor}
 use Rattle.grammar.specs.Traces.{trace_of}
 use Rattle.descriptors.specs.declared.Cursor.{Cursor}
 use Rattle.descriptors.specs.declared.Kind.{Kind}
-use Rattle.descriptors.specs.declared.Step.{Step}
-use Rattle.descriptors.specs.Walk.{step_of}
+use Rattle.descriptors.specs.Walk.{Step, step_of}
 use Rattle.descriptors.specs.Loop.{on_step, walk, walked, trace_at}
 use Rattle.descriptors.proofs.Walk.{nothing_left, stepped}
 use Rattle.known_walk.specs.Known.{is_known, known_among, known_cursors, nowhere, numbered, known_trace}
+use Rattle.std.specs.Prelude.{Some, None, Ok, Err}
+use Rattle.units.specs.declared.refusals.Refusal.{Refusal}
 
 -- ---- the walk
 
@@ -35,11 +36,11 @@ steps (suc n) (suc m) s c h l = go (steps n m s) (step_of s c) refl
   where
     go : ((d : Cursor) → d.end - d.at ≤ n → d.end - d.at ≤ m → walk n s d ≡ walk m s d) → (σ : Step) → step_of s c ≡ σ
         → on_step σ c (walk n s) ≡ on_step σ c (walk m s)
-    go rest (Step.Descriptor kind next) e =
+    go rest (Ok (Some (kind, next))) e =
         let on = stepped s c kind next e in
         ap (λ (cs : List Cursor). c ∷ cs) (rest next (omega (arith, on.further, on.inside, on.same_end)) (omega (arith, on.further, on.inside, on.same_end)))
-    go rest Step.Done e = refl
-    go rest Step.Broken e = refl
+    go rest (Ok None) e = refl
+    go rest (Err refusal) e = refl
 
 -- it goes by the step at its cursor
 by_step : (s : List ℕ) (c : Cursor) (σ : Step) → step_of s c ≡ σ → walked s c ≡ on_step σ c (walk (c.end - c.at) s)
@@ -48,40 +49,40 @@ by_step s c σ e =
     steps (c.end - c.at) (suc (c.end - c.at)) s c (omega arith) (omega arith) ∙ ap (λ (σ : Step). on_step σ c (walk (c.end - c.at) s)) e
 
 -- a step leaves less of the loop
-pub less_left : (s : List ℕ) (c : Cursor) (kind : Kind) (next : Cursor) → step_of s c ≡ Step.Descriptor kind next → next.end - next.at < c.end - c.at
+pub less_left : (s : List ℕ) (c : Cursor) (kind : Kind) (next : Cursor) → step_of s c ≡ Ok (Some (kind, next)) → next.end - next.at < c.end - c.at
 less_left s c kind next e = let on = stepped s c kind next e in omega (arith, on.further, on.inside, on.same_end)
 
 -- ---- the known ones among what is still to be walked
 
 module _ (s : List ℕ) (c : Cursor) where
   -- a descriptor, and then what the walk finds from the next cursor on
-  first : (kind : Kind) (next : Cursor) (b : Bool) → step_of s c ≡ Step.Descriptor kind next → is_known kind ≡ b
+  first : (kind : Kind) (next : Cursor) (b : Bool) → step_of s c ≡ Ok (Some (kind, next)) → is_known kind ≡ b
       → known_among s (walked s c) ≡ cond b (c ∷ known_among s (walked s next)) (known_among s (walked s next))
   unfolding on_step walked known_among
   first kind next b e known =
       let on = stepped s c kind next e in
       ap (known_among s)
-      (by_step s c (Step.Descriptor kind next) e
+      (by_step s c (Ok (Some (kind, next))) e
       ∙ ap (λ (cs : List Cursor). c ∷ cs) (steps (c.end - c.at) (next.end - next.at) s next (omega (arith, on.further, on.same_end)) (omega arith)))
       ∙ ap (λ (t : Bool). cond t (c ∷ known_among s (walked s next)) (known_among s (walked s next))) (ap is_known (sym on.kind_is) ∙ known)
 
-  pub known_first : (kind : Kind) (next : Cursor) → step_of s c ≡ Step.Descriptor kind next → is_known kind ≡ true
+  pub known_first : (kind : Kind) (next : Cursor) → step_of s c ≡ Ok (Some (kind, next)) → is_known kind ≡ true
       → known_among s (walked s c) ≡ c ∷ known_among s (walked s next)
   known_first kind next = first kind next true
 
-  pub unknown_first : (kind : Kind) (next : Cursor) → step_of s c ≡ Step.Descriptor kind next → is_known kind ≡ false
+  pub unknown_first : (kind : Kind) (next : Cursor) → step_of s c ≡ Ok (Some (kind, next)) → is_known kind ≡ false
       → known_among s (walked s c) ≡ known_among s (walked s next)
   unknown_first kind next = first kind next false
 
   -- none, where nothing is left
-  pub none_left : step_of s c ≡ Step.Done → known_among s (walked s c) ≡ []
+  pub none_left : step_of s c ≡ Ok None → known_among s (walked s c) ≡ []
   unfolding on_step known_among
-  none_left e = ap (known_among s) (by_step s c Step.Done e)
+  none_left e = ap (known_among s) (by_step s c (Ok None) e)
 
   -- and none where what is left is broken
-  pub none_whole : step_of s c ≡ Step.Broken → known_among s (walked s c) ≡ []
+  pub none_whole : (refusal : Refusal) → step_of s c ≡ Err refusal → known_among s (walked s c) ≡ []
   unfolding on_step known_among
-  none_whole e = ap (known_among s) (by_step s c Step.Broken e)
+  none_whole refusal e = ap (known_among s) (by_step s c (Err refusal) e)
 
   -- ---- all of them
 
@@ -95,7 +96,7 @@ module _ (s : List ℕ) (c : Cursor) where
 
 -- ---- by number
 
-module _ (s : List ℕ) (c : Cursor) (kind : Kind) (next : Cursor) (e : step_of s c ≡ Step.Descriptor kind next) where
+module _ (s : List ℕ) (c : Cursor) (kind : Kind) (next : Cursor) (e : step_of s c ≡ Ok (Some (kind, next))) where
   pub number_first : is_known kind ≡ true → numbered (known_among s (walked s c)) 0 ≡ c
   unfolding numbered
   number_first h = ap (λ (cs : List Cursor). numbered cs 0) (known_first s c kind next e h)

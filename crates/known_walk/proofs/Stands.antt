@@ -18,12 +18,12 @@ use Rattle.grammar.proofs.Ends.{covers}
 use Rattle.grammar.proofs.Readings.{Reads, rows_parts, arm_parts, frame_parts, reached_at}
 use Rattle.descriptors.specs.declared.Cursor.{Cursor}
 use Rattle.descriptors.specs.declared.Kind.{Kind}
-use Rattle.descriptors.specs.declared.Step.{Step}
 use Rattle.descriptors.specs.Walk.{by_tag, kind_of, step_of, table_of}
 use Rattle.descriptors.specs.Loop.{trace_at}
 use Rattle.descriptors.proofs.Walk.{stepped}
 use Rattle.known_walk.specs.Known.{is_known}
 use Rattle.known_walk.specs.Places.{Stands}
+use Rattle.std.specs.Prelude.{Some, Ok}
 
 -- ---- the table of a descriptor's kind
 
@@ -91,7 +91,7 @@ stands_read s at end stop t fits inside known q =
           ∙ (by_kind env (bit s) _ _ (8 * stop) inner.0 s at (ap (λ (k : ℕ). num (bit s) k 32) third) refl inner.1).reads;
     }
 
-pub stands : (s : List ℕ) (c : Cursor) (kind : Kind) (next : Cursor) → length s ≤ 4096 → step_of s c ≡ Step.Descriptor kind next → is_known kind ≡ true
+pub stands : (s : List ℕ) (c : Cursor) (kind : Kind) (next : Cursor) → length s ≤ 4096 → step_of s c ≡ Ok (Some (kind, next)) → is_known kind ≡ true
     → Stands s c.at (trace_at s c)
 unfolding trace_at run
 stands s c kind next fits e known =

@@ -1,11 +1,10 @@
 -- The known descriptors that the walk from a cursor finds, and what was read of each.
 -- Assumes nothing.
-use Rattle.std.specs.Prelude.{ℕ, zero, suc, Bool, true, false, cond, List, [], ◌∷◌, length, leb}
+use Rattle.std.specs.Prelude.{ℕ, zero, suc, Bool, true, false, cond, List, [], ◌∷◌, length, leb, Some, None, Ok, Err}
 use Rattle.grammar.specs.Traces.{Trace}
 use Rattle.descriptors.specs.declared.Cursor.{Cursor}
 use Rattle.descriptors.specs.declared.Kind.{Kind}
-use Rattle.descriptors.specs.declared.Step.{Step}
-use Rattle.descriptors.specs.Walk.{kind_of, step_of}
+use Rattle.descriptors.specs.Walk.{Step, kind_of, step_of}
 use Rattle.descriptors.specs.Loop.{walked, trace_at}
 
 -- the five kinds that the standard defines
@@ -42,9 +41,9 @@ known_trace s c n = trace_at s (numbered (known_cursors s c) n)
 
 -- the rows, where a step finds a known descriptor
 abbrev pub of_known : Step → Trace → Trace
-of_known (Step.Descriptor kind next) t = cond (is_known kind) t []
-of_known Step.Done t = []
-of_known Step.Broken t = []
+of_known (Ok (Some (kind, next))) t = cond (is_known kind) t []
+of_known (Ok None) t = []
+of_known (Err refusal) t = []
 
 -- the rows of the known descriptor that stands at a cursor, none where none stands there, in no more bytes than a section may have
 unfoldable pub standing_trace : List ℕ → Cursor → Trace

@@ -1,13 +1,12 @@
 -- Where a known descriptor stands.
 -- Assumes nothing.
-use Rattle.std.specs.Prelude.{◌≡◌, ℕ, ◌+◌, ◌*◌, ◌≤◌, true, List, [], ◌∷◌, ◌++◌, length}
+use Rattle.std.specs.Prelude.{◌≡◌, ℕ, ◌+◌, ◌*◌, ◌≤◌, true, List, [], ◌∷◌, ◌++◌, length, Option, Some, None}
 use Rattle.bits.specs.Bits.{bit, field_of}
 use Rattle.grammar.specs.Syntax.{field}
 use Rattle.grammar.specs.Meaning.{Env, values, reached, read}
 use Rattle.grammar.specs.Traces.{Trace}
 use Rattle.descriptors.specs.declared.Cursor.{Cursor}
 use Rattle.descriptors.specs.Walk.{kind_of, table_of}
-use Rattle.known_walk.specs.declared.walk.Place.{Place}
 use Rattle.known_walk.specs.Known.{is_known, known_cursors, numbered, known_trace}
 
 -- ---- a descriptor of the standard's stands at byte `at`
@@ -29,10 +28,10 @@ pub record Stands (s : List ℕ) (at : ℕ) (t : Trace) : Type 0 where
   pub reads : read (table_of (kind_of s at)) env (bit s) (8 * stop) (8 * (at + 6)) ≡ reached (8 * stop) body
 
 -- the descriptor with the rows t stands at byte `at`, and that is the answer; or there are no rows
-abbrev pub PlacedAt : List ℕ → ℕ → Trace → Place → Type 0
-PlacedAt s at t Place.Nowhere = t ≡ []
-PlacedAt s at t (Place.At k) = (k ≡ at) × Stands s k t
+abbrev pub PlacedAt : List ℕ → ℕ → Trace → Option ℕ → Type 0
+PlacedAt s at t None = t ≡ []
+PlacedAt s at t (Some k) = (k ≡ at) × Stands s k t
 
 -- known descriptor n
-abbrev pub Placed : List ℕ → Cursor → ℕ → Place → Type 0
+abbrev pub Placed : List ℕ → Cursor → ℕ → Option ℕ → Type 0
 Placed s c n = PlacedAt s (numbered (known_cursors s c) n).at (known_trace s c n)

@@ -8,14 +8,11 @@ ghost use Rattle.std.specs.Prelude.{◌≡◌};
 ghost use Rattle.known_walk.specs.Known.{is_known};
 
 use descriptors::Kind;
-pub use walk::{Place, count, known, standing};
+pub use walk::{count, known, standing};
 
 // Whether a kind is known.
 pub fn is_known(kind: Kind) -> bool
     ensures { result ≡ is_known kind }
 {
-    match kind {
-        Kind::Unknown => false,
-        _ => true,
-    }
+    kind != Kind::Unknown
 }

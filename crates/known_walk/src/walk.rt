@@ -4,44 +4,28 @@ ghost use Rattle.known_walk.specs.Known.{known_cursors, standing_trace};
 ghost use Rattle.known_walk.specs.Places.{Placed, PlacedAt};
 
 use crate::is_known;
-use descriptors::{Cursor, Step};
+use descriptors::Cursor;
 use units::MOST_SECTION;
 
-// Where a descriptor stands.
-#[derive(Clone, Copy)]
-pub enum Place {
-    At(usize),
-    Nowhere,
-}
-
 // Where known descriptor n stands.
-pub fn known(s: &[u8], cursor: Cursor, n: usize) -> Place
+pub fn known(s: &[u8], cursor: Cursor, n: usize) -> Option<usize>
     ensures { Placed s.now cursor n result }
 {
     if MOST_SECTION < s.len() {
-        return Place::Nowhere;
+        return None;
     }
     let mut place = cursor;
     let mut left = n;
-    loop {
-        match place.step(s) {
-            Step::Descriptor(kind, next) => {
-                if is_known(kind) {
-                    if left == 0 {
-                        return Place::At(place.at);
-                    }
-                    left -= 1;
-                }
-                place = next;
+    while let Ok(Some((kind, next))) = place.step(s) {
+        if is_known(kind) {
+            if left == 0 {
+                return Some(place.at);
             }
-            Step::Done => {
-                return Place::Nowhere;
-            }
-            Step::Broken => {
-                return Place::Nowhere;
-            }
+            left -= 1;
         }
+        place = next;
     }
+    None
 }
 
 // How many there are.
@@ -52,37 +36,25 @@ pub fn count(s: &[u8], cursor: Cursor) -> usize
         return 0;
     }
     let mut rest = cursor;
-    let mut found = 0usize;
-    loop {
-        match rest.step(s) {
-            Step::Descriptor(kind, next) => {
-                if is_known(kind) {
-                    found += 1;
-                }
-                rest = next;
-            }
-            Step::Done => {
-                return found;
-            }
-            Step::Broken => {
-                return found;
-            }
+    let mut found = 0;
+    while let Ok(Some((kind, next))) = rest.step(s) {
+        if is_known(kind) {
+            found += 1;
         }
+        rest = next;
     }
+    found
 }
 
 // Where a known descriptor stands, if one does at the cursor.
-pub fn standing(s: &[u8], cursor: Cursor) -> Place
+pub fn standing(s: &[u8], cursor: Cursor) -> Option<usize>
     ensures { PlacedAt s.now cursor.at (standing_trace s.now cursor) result }
 {
     if MOST_SECTION < s.len() {
-        return Place::Nowhere;
+        return None;
     }
-    let Step::Descriptor(kind, _) = cursor.step(s) else {
-        return Place::Nowhere;
+    let Ok(Some((kind, _))) = cursor.step(s) else {
+        return None;
     };
-    if is_known(kind) {
-        return Place::At(cursor.at);
-    }
-    Place::Nowhere
+    is_known(kind).then_some(cursor.at)
 }
