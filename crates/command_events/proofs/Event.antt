@@ -6,6 +6,7 @@ use mathlib.Core.List.{List, [], ◌∷◌, ◌++◌, append-nil}
 use mathlib.Core.Logic.{⊎_elim}
 use Prim.Native.Nat.{ℕ, ◌+◌, ◌*◌, ◌≤◌, ◌<◌}
 use native.Mathlib.Omega.{arith}
+use Rattle.std.specs.Prelude.{Result, Ok, Err}
 use lib.ListN.{length}
 use lib.Dec.{eqb, ltb}
 use borrow.Author.Tests.{le-ltb, ltb-true}
@@ -46,11 +47,11 @@ abbrev component : List Item
 component = field 8 "component_tag" ∷ field 32 "utc_splice_time" ∷ []
 
 -- component m of an event that is not cancelled
-unfoldable listed : List ℕ → ℕ → ℕ → EventComponent
+unfoldable listed : List ℕ → ℕ → ℕ → Result EventComponent Refusal
 listed s at m =
     cond (ltb m (cond (flag_of s (8 * (at + 5) + 1)) 0 (field_of s (8 * (at + 6)) 8)))
-    (EventComponent.Component (field_of s (8 * (at + 7 + 5 * m)) 8) (field_of s (8 * (at + 8 + 5 * m)) 32))
-    (EventComponent.Refused Refusal.NotHere)
+    (Ok (record { component_tag = field_of s (8 * (at + 7 + 5 * m)) 8; utc_splice_time = field_of s (8 * (at + 8 + 5 * m)) 32 }))
+    (Err Refusal.NotHere)
 
 -- the rows t, up to place k, say when the event takes place, whatever rows come after them
 record Timed (s : List ℕ) (at k : ℕ) (t : Trace) : Type 0 where
@@ -94,7 +95,11 @@ module _ (s : List ℕ) (at : ℕ) where
       let tag = there s (8 * at + 40 + 8 + 8 + m * 40) (8 * (at + 7 + 5 * m)) 8 (omega arith) (omega arith) (omega arith) in
       let time = there s (8 * at + 40 + 8 + 8 + m * 40 + 8) (8 * (at + 8 + 5 * m)) 32 (omega arith) (omega arith) (omega arith) in
       λ i.
-      EventComponent.Component ((ap (λ (u : Trace). look u "component_tag") one.1 ∙ tag) i) ((ap (λ (u : Trace). look u "utc_splice_time") one.1 ∙ time) i))
+      Ok
+      (record {
+        component_tag = (ap (λ (u : Trace). look u "component_tag") one.1 ∙ tag) i;
+        utc_splice_time = (ap (λ (u : Trace). look u "utc_splice_time") one.1 ∙ time) i;
+      }))
       (λ c. refl))
 
   module _ (env : Env) (stop : ℕ) (fits : stop ≤ 8 * length s) where

@@ -6,6 +6,7 @@ use mathlib.Core.List.{List, [], ◌∷◌, ◌++◌, append-nil}
 use Prim.Native.Nat.{ℕ, ◌+◌, ◌*◌, ◌≤◌, ◌<◌}
 use native.Mathlib.Numerals.{add-one}
 use native.Mathlib.Omega.{arith}
+use Rattle.std.specs.Prelude.{Some, None}
 use lib.ListN.{length}
 use lib.Dec.{eqb, ltb}
 use borrow.Author.Tests.{le-leb, eq-eqb, ne_eqb, le-ltb, lt-ltb}
@@ -22,7 +23,6 @@ use Rattle.grammar.proofs.Names.{other, part_past, Opens, opens, Nth, nth}
 use Rattle.grammar.proofs.Scope.{scoped}
 use Rattle.grammar.proofs.Telling.{Tells, rows, loop, over}
 use Rattle.commands.specs.Command.{known, table_of, event_place}
-use Rattle.command_events.specs.declared.parts.Span.{Span}
 use Rattle.command_reading.specs.Command.{command_reading, typed, command_trace}
 use Rattle.command_events.specs.Events.{event_rows, scheduled_of, event_component_in}
 use Rattle.command_events.specs.Places.{EventIs}
@@ -33,7 +33,7 @@ use Rattle.grammar.proofs.Firsts.{anew, first_end, one_more}
 use Rattle.command_events.proofs.Event.{event_tells}
 
 -- where there is no command
-pub no_command : (s : List ℕ) (n : ℕ) → end_of (command_reading s) ≡ breach 0 → EventIs s n Span.Nowhere
+pub no_command : (s : List ℕ) (n : ℕ) → end_of (command_reading s) ≡ breach 0 → EventIs s n None
 unfolding typed values look
 no_command s n e = rw (type_alone s e) (none_of (eqb (num (bit s) 104 8) 0x04) n)
 
@@ -79,7 +79,7 @@ schedule_lists s env stop =
     })))
 
 module _ (s : List ℕ) (end n : ℕ) (t : Trace) (e : command_reading s ≡ reached (8 * end) t) where
-  pub not_schedule : (num (bit s) 104 8 ≡ 0x04 → ⊥) → EventIs s n Span.Nowhere
+  pub not_schedule : (num (bit s) 104 8 ≡ 0x04 → ⊥) → EventIs s n None
   unfolding typed values look
   not_schedule h = rw (trace_is s end t e, ne_eqb _ 0x04 h)
 
@@ -88,7 +88,7 @@ module _ (s : List ℕ) (end n : ℕ) (t : Trace) (e : command_reading s ≡ rea
     unfolding table_of
     told = given (schedule_lists s (known s) (came s end t e).stop).tells (by_table s end t e 0x04 h) end refl
 
-    pub no_event : num (bit s) 112 8 ≤ n → EventIs s n Span.Nowhere
+    pub no_event : num (bit s) 112 8 ≤ n → EventIs s n None
     unfolding typed values look
     no_event l =
         let x = told in
@@ -143,7 +143,7 @@ module _ (s : List ℕ) (end n : ℕ) (t : Trace) (e : command_reading s ≡ rea
             let far = onward schedule_event refl [] (bit s) (8 * end) n 120 (8 * at) _ (reached_at (again n (one s end) 120) (8 * at) (sym (place n) ∙ p)) in
             omega arith
 
-        pub event_at_lem : EventIs s n (Span.Of at to)
+        pub event_at_lem : EventIs s n (Some (at, to))
         event_at_lem =
             let b = bounds s end t e in
             let told = given (event_tells s at end (omega arith)).tells found.reaches in

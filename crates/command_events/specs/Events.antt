@@ -1,6 +1,6 @@
 -- What the events of a schedule say by number: every value is that of a field on the section's sheet, under the field's name.
 -- Assumes nothing.
-use Rattle.std.specs.Prelude.{ℕ, cond, ◌&&◌, [], ltb}
+use Rattle.std.specs.Prelude.{ℕ, cond, ◌&&◌, [], Result, Ok, Err, ltb}
 use Rattle.units.specs.declared.refusals.Refusal.{Refusal}
 use Rattle.units.specs.Clock.{event_id}
 use Rattle.grammar.specs.Traces.{Trace}
@@ -32,16 +32,20 @@ scheduled_of t =
     }))
 
 -- event n of the schedule with the rows t
-unfoldable pub event_of : Trace → ℕ → Event
-event_of t n = cond (is_type t 0x04 && ltb n (look t "splice_count")) (scheduled_of (event_rows t n)) (Event.Refused Refusal.NotHere)
+unfoldable pub event_of : Trace → ℕ → Result Event Refusal
+event_of t n = cond (is_type t 0x04 && ltb n (look t "splice_count")) (Ok (scheduled_of (event_rows t n))) (Err Refusal.NotHere)
 
 -- component m of an event with the rows t
-unfoldable pub event_component_in : Trace → ℕ → EventComponent
+unfoldable pub event_component_in : Trace → ℕ → Result EventComponent Refusal
 event_component_in t m =
     cond (ltb m (look t "component_count"))
-    (EventComponent.Component (look (part "component_tag" m t) "component_tag") (look (part "component_tag" m t) "utc_splice_time"))
-    (EventComponent.Refused Refusal.NotHere)
+    (Ok
+    (record {
+      component_tag = look (part "component_tag" m t) "component_tag";
+      utc_splice_time = look (part "component_tag" m t) "utc_splice_time";
+    }))
+    (Err Refusal.NotHere)
 
 -- component m of event n of the schedule with the rows t
-unfoldable pub event_component_of : Trace → ℕ → ℕ → EventComponent
+unfoldable pub event_component_of : Trace → ℕ → ℕ → Result EventComponent Refusal
 event_component_of t n m = event_component_in (event_rows t n) m

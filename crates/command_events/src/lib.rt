@@ -9,25 +9,20 @@ ghost use Rattle.command_reading.specs.Command.{command_trace};
 ghost use Rattle.command_events.specs.Events.{event_of, event_component_of};
 
 use command_reading::{Event, EventComponent};
-use parts::Span;
 use units::Refusal;
 
 // Event n.
-pub fn schedule_event(s: &[u8], n: usize) -> Event
+pub fn schedule_event(s: &[u8], n: usize) -> Result<Event, Refusal>
     ensures { result ≡ event_of (command_trace s.now) n }
 {
-    let Span::Of(at, end) = parts::event_span(s, n) else {
-        return Event::Refused(Refusal::NotHere);
-    };
-    parts::event(s, at, end)
+    let (at, end) = parts::event_span(s, n).ok_or(Refusal::NotHere)?;
+    Ok(parts::event(s, at, end))
 }
 
 // Component m of event n.
-pub fn event_component(s: &[u8], n: usize, m: usize) -> EventComponent
+pub fn event_component(s: &[u8], n: usize, m: usize) -> Result<EventComponent, Refusal>
     ensures { result ≡ event_component_of (command_trace s.now) n m }
 {
-    let Span::Of(at, _) = parts::event_span(s, n) else {
-        return EventComponent::Refused(Refusal::NotHere);
-    };
+    let (at, _) = parts::event_span(s, n).ok_or(Refusal::NotHere)?;
     parts::event_component(s, at, m)
 }

@@ -3,38 +3,23 @@ ghost use Rattle.std.specs.Prelude.{◌≡◌, ◌≤◌, length};
 ghost use Rattle.command_events.specs.Places.{event_time_at, event_at, components_at, event_component_at, EventIs};
 
 use command_reading::{Event, EventComponent, EventTime, ScheduledEvent};
-use grammar::Ended;
 use units::{EventId, Refusal};
 
-// The bytes of an event of a schedule.
-#[derive(Clone, Copy)]
-pub(crate) enum Span {
-    // From one byte up to another.
-    Of(usize, usize),
-    Nowhere,
-}
-
-// Where event n of the section's schedule stands.
-pub(crate) fn event_span(s: &[u8], n: usize) -> Span
+// Where event n of the section's schedule stands: from one byte up to another.
+pub(crate) fn event_span(s: &[u8], n: usize) -> Option<(usize, usize)>
     ensures { EventIs s.now n result }
 {
-    let Ended::At(end) = command_reading::end(s) else {
-        return Span::Nowhere;
-    };
+    let end = command_reading::end(s)?;
     if s[13] != 0x04 {
-        return Span::Nowhere;
+        return None;
     }
     // splice_count
     if (s[14] as usize) <= n {
-        return Span::Nowhere;
+        return None;
     }
-    let Ended::At(from) = commands::schedule_event_at(s, 15, end, n) else {
-        return Span::Nowhere;
-    };
-    let Ended::At(to) = commands::schedule_event_at(s, 15, end, n + 1) else {
-        return Span::Nowhere;
-    };
-    Span::Of(from, to)
+    let from = commands::schedule_event_at(s, 15, end, n)?;
+    let to = commands::schedule_event_at(s, 15, end, n + 1)?;
+    Some((from, to))
 }
 
 // Table 9, the event that stands from byte `at` up to `end`.
@@ -88,16 +73,16 @@ fn component_count(s: &[u8], at: usize) -> usize
 }
 
 // Table 9, component m of the event that stands from byte `at` on.
-pub(crate) fn event_component(s: &[u8], at: usize, m: usize) -> EventComponent
+pub(crate) fn event_component(s: &[u8], at: usize, m: usize) -> Result<EventComponent, Refusal>
     requires { at ≤ 4096 }
     ensures { result ≡ event_component_at s.now at m }
 {
     if component_count(s, at) <= m {
-        return EventComponent::Refused(Refusal::NotHere);
+        return Err(Refusal::NotHere);
     }
     let place = at + 7 + 5 * m;
-    EventComponent::Component {
+    Ok(EventComponent {
         component_tag: bits::read(s, 8 * place, 8) as u8,
         utc_splice_time: bits::quad(s, place + 1) as u32,
-    }
+    })
 }

@@ -5,10 +5,10 @@ use mathlib.Core.Bool.{Bool, true, false, cond}
 use mathlib.Core.List.{List}
 use Prim.Native.Nat.{ℕ, ◌+◌, ◌*◌, ◌<◌}
 use native.Mathlib.Omega.{arith}
+use Rattle.std.specs.Prelude.{Ok}
 use borrow.Author.Tests.{lt-ltb, le-ltb}
 use Rattle.bits.specs.Bits.{field_of, flag_of}
 use Rattle.bits.proofs.Fields.{field_lt}
-use Rattle.command_reading.specs.declared.answers.EventComponent.{EventComponent}
 use Rattle.command_events.specs.Places.{components_at, event_component_at}
 use Rattle.command_events.proofs.parts.event_component.Goals as goal
 
@@ -64,4 +64,9 @@ returns c =
     let a = c.args in
     let after : a.at + 7 + 5 * a.m + 1 ≡ a.at + 8 + 5 * a.m = omega arith in
     rw (lt-ltb a.m (components_at a.s.now a.at) (omega (arith, c.component_count.ensures)))
-    (λ i. EventComponent.Component (c.read.ensures i) ((c.quad.ensures ∙ ap (λ (x : ℕ). field_of a.s.now (8 * x) 32) after) i))
+    (λ i.
+    Ok
+    (record {
+      component_tag = c.read.ensures i;
+      utc_splice_time = (c.quad.ensures ∙ ap (λ (x : ℕ). field_of a.s.now (8 * x) 32) after) i;
+    }))
