@@ -1,5 +1,5 @@
 // From bytes to text: the pass that writes the characters, four of three bytes.
-ghost use Rattle.std.specs.Prelude.{◌≡◌, ◌+◌, ◌*◌, ◌≤◌, ◌<◌, cond, ltb, length, get_or};
+ghost use Rattle.std.specs.Prelude.{◌≡◌, ◌+◌, ◌*◌, ◌/◌, ◌≤◌, ◌<◌, cond, ltb, length, get_or};
 ghost use Rattle.std.proofs.lemmas.List.Edits.{sets};
 ghost use Rattle.bits.specs.Bits.{run};
 ghost use Rattle.units.specs.Answers.{memory};
@@ -79,14 +79,6 @@ fn character(v: u8) -> u8
     }
 }
 
-// Byte i of the section, which is there.
-fn there(section: &[u8], i: usize) -> u8
-    requires { i < length section.now }
-    ensures { (result ≡ get_or section.now i 0) × (result < 256) }
-{
-    section[i]
-}
-
 // Byte i of the section; 0 past its end.
 fn byte(section: &[u8], i: usize) -> u8
     ensures { (result ≡ get_or section.now i 0) × (result < 256) }
@@ -94,15 +86,13 @@ fn byte(section: &[u8], i: usize) -> u8
     if i < section.len() { section[i] } else { 0 }
 }
 
-// The characters of the first n groups of three bytes, written to the front of out.
-fn put_groups(section: &[u8], out: &mut [u8], n: usize)
-    requires { (3 * n ≤ length section.now) × (4 * n ≤ length out.old) }
-    ensures { out.new ≡ memory 0 (run (character_at section.now) 0 (4 * n)) out.old }
+// The characters of the whole groups of three bytes, written to the front of out.
+fn put_groups(section: &[u8], out: &mut [u8])
+    requires { 4 * (length section.now / 3) ≤ length out.old }
+    ensures { out.new ≡ memory 0 (run (character_at section.now) 0 (4 * (length section.now / 3))) out.old }
 {
-    for q in 0..n {
-        let a = there(section, 3 * q);
-        let b = there(section, 3 * q + 1);
-        let c = there(section, 3 * q + 2);
+    let (groups, _) = section.as_chunks::<3>();
+    for (q, &[a, b, c]) in groups.iter().enumerate() {
         let first = character(a / 4);
         let second = character(a % 4 * 16 + b / 16);
         let third = character(b % 16 * 4 + c / 64);
@@ -126,7 +116,7 @@ fn put_last(section: &[u8], out: &mut [u8], whole: usize, left: usize)
     requires { (length section.now ≡ 3 * whole + left) × (0 < left) × (left < 3) × (4 * whole + 4 ≤ length out.old) }
     ensures { out.new ≡ sets out.old (4 * whole) (run (character_at section.now) (4 * whole) 4) }
 {
-    let a = there(section, 3 * whole);
+    let a = section[3 * whole];
     let b = byte(section, 3 * whole + 1);
     let first = character(a / 4);
     let second = character(a % 4 * 16 + b / 16);
@@ -146,5 +136,5 @@ pub(crate) fn put(section: &[u8], out: &mut [u8], whole: usize, left: usize)
     if 0 < left {
         put_last(section, out, whole, left);
     }
-    put_groups(section, out, whole);
+    put_groups(section, out);
 }

@@ -2,8 +2,9 @@
 -- Assumes nothing.
 use mathlib.Core.Path.{◌≡◌, refl, ap, ◌∙◌}
 use mathlib.Core.List.{List}
-use Prim.Native.Nat.{ℕ, ◌-◌, ◌*◌}
+use Prim.Native.Nat.{ℕ, ◌-◌, ◌*◌, ◌/◌}
 use native.Mathlib.Omega.{arith}
+use lib.ListN.{length}
 use lib.Seq.{sets}
 use Rattle.bits.specs.Bits.{run}
 use Rattle.units.specs.Answers.{memory}
@@ -41,4 +42,5 @@ returns c =
       | else-left-gt0 w ↦ w.out-is ∙ none_stored g lent n ∙ ap stored {x = 0} {y = text_length s - n} (omega arith)
     ] in
     fill_same g _ _ _ _ (omega (arith, c.requires))
-    (c.put_groups.ensures ∙ ap (memory 0 (run g 0 n)) last_stored ∙ front_filled g _ n _ (omega (arith, c.requires)))
+    (c.put_groups.ensures ∙ ap (λ (m : ℕ). memory 0 (run g 0 m) c.if-left-gt0.out) {x = 4 * (length s / 3)} {y = n} (omega arith)
+    ∙ ap (memory 0 (run g 0 n)) last_stored ∙ front_filled g _ n _ (omega (arith, c.requires)))
