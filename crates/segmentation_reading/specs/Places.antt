@@ -1,14 +1,14 @@
 -- The parts of a segmentation descriptor (Table 20) by the places at which they stand.
 -- Assumes nothing.
-use Rattle.std.specs.Prelude.{ℕ, ◌+◌, ◌*◌, cond, ◌&&◌, List, ltb}
+use Rattle.std.specs.Prelude.{ℕ, ◌+◌, ◌*◌, cond, ◌&&◌, List, ltb, Option, Some, None}
 use Rattle.bits.specs.Bits.{field_of, flag_of}
 use Rattle.units.specs.Clock.{ticks, event_id}
 use Rattle.grammar.specs.Meaning.{is_among}
 use Rattle.grammar.specs.Tables.{sub_segmented}
-use Rattle.segmentation_reading.specs.declared.answers.Mode.{Mode}
-use Rattle.segmentation_reading.specs.declared.answers.Delivery.{Delivery}
-use Rattle.segmentation_reading.specs.declared.answers.Duration.{Duration}
-use Rattle.segmentation_reading.specs.declared.answers.SubSegments.{SubSegments}
+use Rattle.units.specs.declared.clock.Ticks.{Ticks}
+use Rattle.units.specs.declared.mode.Mode.{Mode}
+use Rattle.segmentation_reading.specs.declared.answers.Restrictions.{Restrictions}
+use Rattle.segmentation_reading.specs.declared.answers.SubSegment.{SubSegment}
 use Rattle.segmentation_reading.specs.declared.answers.Segmentation.{Segmentation}
 
 -- ---- by the byte `at` after the identifier
@@ -26,20 +26,26 @@ abbrev pub mode_at : List ℕ → ℕ → Mode
 mode_at s at = cond (flag_of s (8 * (at + 5))) Mode.Program (Mode.Components (field_of s (8 * (at + 6)) 8))
 
 -- not restricted, or the four restrictions
-abbrev pub delivery_at : List ℕ → ℕ → Delivery
+abbrev pub delivery_at : List ℕ → ℕ → Option Restrictions
 delivery_at s at =
-    cond (flag_of s (8 * (at + 5) + 2)) Delivery.NotRestricted
-    (Delivery.Restricted (flag_of s (8 * (at + 5) + 3)) (flag_of s (8 * (at + 5) + 4)) (flag_of s (8 * (at + 5) + 5)) (field_of s (8 * (at + 5) + 6) 2))
+    cond (flag_of s (8 * (at + 5) + 2)) None
+    (Some (record {
+      web_delivery_allowed_flag = flag_of s (8 * (at + 5) + 3);
+      no_regional_blackout_flag = flag_of s (8 * (at + 5) + 4);
+      archive_allowed_flag = flag_of s (8 * (at + 5) + 5);
+      device_restrictions = field_of s (8 * (at + 5) + 6) 2;
+    }))
 
 -- the 40 bits of segmentation_duration, where its flag is set
-abbrev pub duration_at : List ℕ → ℕ → Duration
+abbrev pub duration_at : List ℕ → ℕ → Option Ticks
 duration_at s at =
-    cond (flag_of s (8 * (at + 5) + 1)) (Duration.Present (ticks (field_of s (8 * after_components s at) 40))) Duration.Absent
+    cond (flag_of s (8 * (at + 5) + 1)) (Some (ticks (field_of s (8 * after_components s at) 40))) None
 
 -- the two bytes after segments_expected at byte `at - 1`, where the type may have them and the descriptor does not end before
-abbrev pub sub_segments_at : List ℕ → ℕ → ℕ → ℕ → SubSegments
+abbrev pub sub_segments_at : List ℕ → ℕ → ℕ → ℕ → Option SubSegment
 sub_segments_at s type at end =
-    cond (is_among type sub_segmented && ltb at end) (SubSegments.Present (field_of s (8 * at) 8) (field_of s (8 * (at + 1)) 8)) SubSegments.Absent
+    cond (is_among type sub_segmented && ltb at end)
+    (Some (record { sub_segment_num = field_of s (8 * at) 8; sub_segments_expected = field_of s (8 * (at + 1)) 8 })) None
 
 -- from the UPID's type at byte `at` on: where segmentation_type_id stands
 abbrev pub after_upid : List ℕ → ℕ → ℕ

@@ -7,7 +7,8 @@ mod answers;
 ghost use Rattle.std.specs.Prelude.{◌≡◌, ◌≤◌};
 ghost use Rattle.segmentation_reading.specs.Places.{after_components, after_upid, upid_place, mode_at, delivery_at, duration_at, sub_segments_at, uncancelled_at};
 
-pub use answers::{Delivery, Duration, Mode, Segmentation, SubSegments};
+pub use answers::{Restrictions, Segmentation, SubSegment};
+pub use units::Mode;
 use units::{EventId, Ticks};
 
 // A descriptor that is not cancelled, which ends before byte `end`.
@@ -60,16 +61,16 @@ pub fn type_place(s: &[u8], at: u16) -> usize
     upid + 2 + segmentation_upid_length
 }
 
-// How long the segment lasts.
-pub fn duration(s: &[u8], at: u16) -> Duration
+// How long the segment lasts, where that is given.
+pub fn duration(s: &[u8], at: u16) -> Option<Ticks>
     ensures { result ≡ duration_at s.now at }
 {
     let start = at as usize;
     // segmentation_duration_flag
     if bits::flag(s, 8 * (start + 5) + 1) {
-        Duration::Present(Ticks(bits::read(s, 8 * after_components(s, start), 40)))
+        Some(Ticks(bits::read(s, 8 * after_components(s, start), 40)))
     } else {
-        Duration::Absent
+        None
     }
 }
 
@@ -85,38 +86,39 @@ fn mode(s: &[u8], at: usize) -> Mode
     }
 }
 
-fn delivery(s: &[u8], at: usize) -> Delivery
+// What the delivery is restricted to, if it is.
+fn delivery(s: &[u8], at: usize) -> Option<Restrictions>
     requires { at ≤ 65535 }
     ensures { result ≡ delivery_at s.now at }
 {
     let flags = 8 * (at + 5);
     // delivery_not_restricted_flag
     if bits::flag(s, flags + 2) {
-        return Delivery::NotRestricted;
+        return None;
     }
-    Delivery::Restricted {
+    Some(Restrictions {
         web_delivery_allowed_flag: bits::flag(s, flags + 3),
         no_regional_blackout_flag: bits::flag(s, flags + 4),
         archive_allowed_flag: bits::flag(s, flags + 5),
         device_restrictions: bits::read(s, flags + 6, 2) as u8,
-    }
+    })
 }
 
 // The two bytes at `at`, where the type may have them and the descriptor does not end before.
-fn sub_segments(s: &[u8], segmentation_type_id: u8, at: usize, end: usize) -> SubSegments
+fn sub_segments(s: &[u8], segmentation_type_id: u8, at: usize, end: usize) -> Option<SubSegment>
     requires { at ≤ 131072 }
     ensures { result ≡ sub_segments_at s.now segmentation_type_id at end }
 {
     if !segmentation::is_sub_segmented(segmentation_type_id) {
-        return SubSegments::Absent;
+        return None;
     }
     if end <= at {
-        return SubSegments::Absent;
+        return None;
     }
-    SubSegments::Present {
+    Some(SubSegment {
         sub_segment_num: bits::octet(s, at),
         sub_segments_expected: bits::octet(s, at + 1),
-    }
+    })
 }
 
 // Where the components end.
