@@ -22,7 +22,7 @@ use Rattle.descriptors.specs.Loop.{walked, traces_at}
 use Rattle.descriptors.proofs.Walk.{same_descriptor}
 use Rattle.descriptors.proofs.Loop.{loop_trace}
 use Rattle.descriptors.proofs.Filled.{Filled}
-use Rattle.section.specs.declared.Verdict.TheVariants.{Accepted}
+use Rattle.std.specs.Prelude.{Ok}
 use Rattle.section.specs.Accept.{the, accept_of}
 use Rattle.opening.specs.First.{first_cursor}
 use Rattle.section.proofs.Accepted.{accepted}
@@ -112,7 +112,7 @@ module _ (s : List ℕ) where
   regroup : (a b c d e f : Trace) → a ++ (b ++ (c ++ ((d ++ e) ++ f))) ≡ (a ++ (b ++ (c ++ d))) ++ (e ++ f)
   regroup a b c d e f = simp append_assoc
 
-  module _ (e : accept_of s ≡ Accepted) (h : eqb (the s "encrypted_packet") 1 ≡ false) (j : ℕ) (t : Trace) where
+  module _ (e : accept_of s ≡ Ok tt) (h : eqb (the s "encrypted_packet") 1 ≡ false) (j : ℕ) (t : Trace) where
     -- from splice_command_type on
     unsealed : Reads splice_info_section [] (bit s) (8 * (length s - 4)) 0 j t
         → (v : Trace) × Reads (under 8 sized_command (under 9 descriptor_loop (bytes "alignment_stuffing"))) (known s) (bit s) (8 * (length s - 4)) 112 j v

@@ -8,23 +8,22 @@ use lib.Dec.{eqb}
 use Rattle.grammar.specs.Meaning.{ends}
 use Rattle.commands.specs.Command.{command_end}
 use Rattle.units.specs.declared.refusals.Refusal.{Refusal}
-use Rattle.section.specs.declared.Verdict.{Verdict}
-use Rattle.section.specs.declared.Verdict.TheVariants.{Accepted, Refused}
+use Rattle.std.specs.Prelude.{Result, Ok, Err}
 use Rattle.section.specs.Accept.{the, accept_of}
 use Rattle.section.specs.Judge.{nowhere, loop_at, loop_from}
 use Rattle.section.proofs.Judged.{loop_after}
 use Rattle.opening.specs.First.{if_accepted, first_cursor}
 
 module _ (s : List ℕ) where
-  pub no_section : (r : Refusal) → accept_of s ≡ Refused r → first_cursor s ≡ nowhere
+  pub no_section : (r : Refusal) → accept_of s ≡ Err r → first_cursor s ≡ nowhere
   unfolding first_cursor if_accepted
-  no_section r e = ap (λ (v : Verdict). if_accepted v (cond (eqb (the s "encrypted_packet") 1) nowhere (loop_from s (command_end s)))) e
+  no_section r e = ap (λ (v : Result (Unit {0}) Refusal). if_accepted v (cond (eqb (the s "encrypted_packet") 1) nowhere (loop_from s (command_end s)))) e
 
-  module _ (e : accept_of s ≡ Accepted) where
+  module _ (e : accept_of s ≡ Ok tt) where
     sealed_as : (b : Bool) → eqb (the s "encrypted_packet") 1 ≡ b → first_cursor s ≡ cond b nowhere (loop_from s (command_end s))
     unfolding first_cursor if_accepted
     sealed_as b h =
-        ap (λ (v : Verdict). if_accepted v (cond (eqb (the s "encrypted_packet") 1) nowhere (loop_from s (command_end s)))) e
+        ap (λ (v : Result (Unit {0}) Refusal). if_accepted v (cond (eqb (the s "encrypted_packet") 1) nowhere (loop_from s (command_end s)))) e
         ∙ ap (λ (t : Bool). cond t nowhere (loop_from s (command_end s))) h
 
     pub when_sealed : eqb (the s "encrypted_packet") 1 ≡ true → first_cursor s ≡ nowhere

@@ -1,22 +1,18 @@
 -- The cursor of a section's first descriptor, where the walk over its descriptors starts; whether a section can be asked, and what a
 -- question on it answers.
 -- Assumes nothing.
-use Rattle.std.specs.Prelude.{ℕ, zero, suc, cond, List, [], ◌∷◌, eqb}
+use Rattle.std.specs.Prelude.{ℕ, zero, suc, cond, List, [], ◌∷◌, eqb, Result, Ok, Err}
 use Rattle.commands.specs.Command.{command_end}
 use Rattle.units.specs.declared.refusals.Refusal.{Refusal}
 use Rattle.descriptors.specs.declared.Cursor.{Cursor}
-use Rattle.section.specs.declared.Verdict.{Verdict}
-use Rattle.section.specs.declared.Verdict.TheVariants.{Accepted, Refused}
-use Rattle.opening.specs.declared.Opened.{Opened}
-use Rattle.opening.specs.declared.Opened.TheVariants.{Open}
 use Rattle.units.specs.Refusals.{named, first, or_else}
 use Rattle.section.specs.Accept.{the, accept_row, accept_of}
 use Rattle.section.specs.Judge.{nowhere, loop_from}
 
 -- a cursor of an accepted section, none of a refused one
-unfoldable pub if_accepted : Verdict → Cursor → Cursor
-if_accepted Accepted c = c
-if_accepted (Refused r) c = nowhere
+unfoldable pub if_accepted : Result (Unit {0}) Refusal → Cursor → Cursor
+if_accepted (Ok u) c = c
+if_accepted (Err r) c = nowhere
 
 -- the cursor of the section's first descriptor; none where the bytes are no section, or its descriptors are sealed
 unfoldable pub first_cursor : List ℕ → Cursor
@@ -29,15 +25,15 @@ unfoldable pub open_row : List ℕ → ℕ
 open_row s = or_else (accept_row s) (first ((eqb (the s "encrypted_packet") 1, 17) ∷ []))
 
 -- the answer for a row: no row, 0, opens the section at its first descriptor
-unfoldable pub opened : ℕ → Cursor → Opened
-opened zero c = Open c
-opened (suc row) c = Opened.Refused (named (suc row))
+unfoldable pub opened : ℕ → Cursor → Result Cursor Refusal
+opened zero c = Ok c
+opened (suc row) c = Err (named (suc row))
 
 -- whether the section can be asked, or why not
-unfoldable pub open_of : List ℕ → Opened
+unfoldable pub open_of : List ℕ → Result Cursor Refusal
 open_of s = opened (open_row s) (first_cursor s)
 
 -- the answer of an open section, with the cursor of its first descriptor, or the refusal of one that cannot be asked
-unfoldable pub asked : {A : Type 0} → Opened → (Refusal → A) → (Cursor → A) → A
-asked (Opened.Open c) refuse answer = answer c
-asked (Opened.Refused r) refuse answer = refuse r
+unfoldable pub asked : {A : Type 0} → Result Cursor Refusal → (Refusal → A) → (Cursor → A) → A
+asked (Ok c) refuse answer = answer c
+asked (Err r) refuse answer = refuse r

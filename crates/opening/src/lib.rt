@@ -5,33 +5,18 @@ ghost use Rattle.std.specs.Prelude.{◌≡◌};
 ghost use Rattle.opening.specs.First.{first_cursor, open_of};
 
 use descriptors::Cursor;
-use section::Judgement;
 use units::Refusal;
 
-// Open, with the cursor of its first descriptor, or why not.
-#[derive(Clone, Copy)]
-pub enum Opened {
-    Open(Cursor),
-    Refused(Refusal),
-}
-
-// Opens the section for a question on its command or its descriptors: rows 1 to 10, then SEALED.
-pub fn open(s: &[u8]) -> Opened
+// Opens the section at its first descriptor, for a question on its command or its descriptors: rows 1 to 10, then SEALED.
+pub fn open(s: &[u8]) -> Result<Cursor, Refusal>
     ensures { result ≡ open_of s.now }
 {
-    match section::judge(s) {
-        Judgement::Open(cursor) => Opened::Open(cursor),
-        Judgement::Sealed => Opened::Refused(Refusal::Sealed),
-        Judgement::Refused(refusal) => Opened::Refused(refusal),
-    }
+    section::judge(s)?.ok_or(Refusal::Sealed)
 }
 
 // The cursor of the section's first descriptor. Empty where the bytes are no section, and where the section is sealed.
 pub fn first_cursor(s: &[u8]) -> Cursor
     ensures { result ≡ first_cursor s.now }
 {
-    let Opened::Open(cursor) = open(s) else {
-        return Cursor { at: 0, end: 0 };
-    };
-    cursor
+    open(s).unwrap_or(Cursor { at: 0, end: 0 })
 }
