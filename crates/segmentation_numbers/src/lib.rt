@@ -8,10 +8,10 @@ ghost use Rattle.wire.specs.Given.{these, given, given_into};
 ghost use Rattle.segmentation_numbers.specs.Numbers.{segmentation_numbers};
 
 use segmentation_reading::Segmentation;
-use units::Written;
+use units::Refusal;
 
 // A segmentation descriptor, written to the front of out.
-pub fn give_segmentation(segmentation: Segmentation, out: &mut [u64]) -> Written
+pub fn give_segmentation(segmentation: Segmentation, out: &mut [u64]) -> Result<usize, Refusal>
     ensures { (result ≡ given (these (segmentation_numbers segmentation)) out.old) × (out.new ≡ given_into (these (segmentation_numbers segmentation)) out.old) }
 {
     let mut list = [0u64; 19];

@@ -1,62 +1,36 @@
 -- `segmentation_numbers::lists::segmentation` meets its contract: numbers and parts, each of which leaves room for the next.
 -- Assumes nothing.
-use Prim.Native.Nat.{◌+◌, ◌≤◌}
+use mathlib.Core.Path.{◌≡◌}
+use mathlib.Core.List.{List, [], ◌∷◌}
+use Prim.Native.Nat.{ℕ}
 use native.Mathlib.Omega.{arith}
-use lib.ListN.{length}
-use Rattle.wire.proofs.Placed.{stands, both, as_long, room}
-use Rattle.segmentation_numbers.proofs.Short.{segmented_short, delivery_short, duration_short}
+use lib.ListN.{length-append}
+use Rattle.std.proofs.Common.{append_assoc}
+use Rattle.wire.specs.Wire.{mode_numbers}
+use Rattle.wire.proofs.Placed.{stands, put_as, behind, told}
+use Rattle.wire.proofs.Short.{mode_short}
+use Rattle.segmentation_reading.specs.declared.answers.Segmentation.{Segmentation}
+use Rattle.segmentation_numbers.specs.Numbers.{delivery_numbers, duration_numbers, sub_segment_numbers}
+use Rattle.segmentation_numbers.proofs.Short.{delivery_short, duration_short, sub_segments_short}
 use Rattle.segmentation_numbers.proofs.lists.segmentation.Goals as goal
 
-pub segmented-n-requires : goal.segmented-n-requires
-segmented-n-requires c =
-    let left-put : c.put-n.result + 17 ≤ length c.put-n.new.list = room 2 17 (stands (omega arith) c.put-n.ensures) (omega arith) (omega arith) in
-    let left = left-put in
-    omega arith
-
-pub delivery-n-requires : goal.delivery-n-requires
-delivery-n-requires c =
-    let left-put : c.put-n.result + 17 ≤ length c.put-n.new.list = room 2 17 (stands (omega arith) c.put-n.ensures) (omega arith) (omega arith) in
-    let left-segmented : c.segmented-n.result + 15 ≤ length c.segmented-n.new.list = let a = c.args in
-    room 2 15 c.segmented-n.ensures (segmented_short a.x.mode) (left-put) in
-    let left = left-segmented in
-    omega arith
-
-pub duration-n-requires : goal.duration-n-requires
-duration-n-requires c =
-    let left-put : c.put-n.result + 17 ≤ length c.put-n.new.list = room 2 17 (stands (omega arith) c.put-n.ensures) (omega arith) (omega arith) in
-    let left-segmented : c.segmented-n.result + 15 ≤ length c.segmented-n.new.list = let a = c.args in
-    room 2 15 c.segmented-n.ensures (segmented_short a.x.mode) (left-put) in
-    let left-delivery : c.delivery-n.result + 10 ≤ length c.delivery-n.new.list = let a = c.args in
-    room 5 10 c.delivery-n.ensures (delivery_short a.x.delivery) (left-segmented) in
-    let left = left-delivery in
-    omega arith
-
-pub sub_segments-requires : goal.sub_segments-requires
-sub_segments-requires c =
-    let left-put : c.put-n.result + 17 ≤ length c.put-n.new.list = room 2 17 (stands (omega arith) c.put-n.ensures) (omega arith) (omega arith) in
-    let left-segmented : c.segmented-n.result + 15 ≤ length c.segmented-n.new.list = let a = c.args in
-    room 2 15 c.segmented-n.ensures (segmented_short a.x.mode) (left-put) in
-    let left-delivery : c.delivery-n.result + 10 ≤ length c.delivery-n.new.list = let a = c.args in
-    room 5 10 c.delivery-n.ensures (delivery_short a.x.delivery) (left-segmented) in
-    let left-duration : c.duration-n.result + 8 ≤ length c.duration-n.new.list = let a = c.args in
-    room 2 8 c.duration-n.ensures (duration_short a.x.duration) (left-delivery) in
-    let left-put2 : c.put-n-2.result + 3 ≤ length c.put-n-2.new.list = let left = left-duration in
-    room 5 3 (stands (omega arith) c.put-n-2.ensures) (omega arith) left in
-    left-put2
+-- the five numbers in front of the sub-segment
+abbrev five : Segmentation → List ℕ
+five x = x.segmentation_upid_type ∷ x.segmentation_upid_length ∷ x.segmentation_type_id ∷ x.segment_num ∷ x.segments_expected ∷ []
 
 pub returns : goal.returns
 returns c =
-    let left-put : c.put-n.result + 17 ≤ length c.put-n.new.list = room 2 17 (stands (omega arith) c.put-n.ensures) (omega arith) (omega arith) in
-    let left-segmented : c.segmented-n.result + 15 ≤ length c.segmented-n.new.list = let a = c.args in
-    room 2 15 c.segmented-n.ensures (segmented_short a.x.mode) (left-put) in
-    let left-delivery : c.delivery-n.result + 10 ≤ length c.delivery-n.new.list = let a = c.args in
-    room 5 10 c.delivery-n.ensures (delivery_short a.x.delivery) (left-segmented) in
-    let left-duration : c.duration-n.result + 8 ≤ length c.duration-n.new.list = let a = c.args in
-    room 2 8 c.duration-n.ensures (duration_short a.x.duration) (left-delivery) in
-    let pre = c.requires in
-    let left = left-duration in
-    both (stands (omega arith) c.put-n.ensures)
-    (both c.segmented-n.ensures (both c.delivery-n.ensures (both c.duration-n.ensures (both (stands (omega arith) c.put-n-2.ensures) c.sub_segments.ensures))))
-
-pub shape_of-list : goal.shape_of-list
-shape_of-list c = as_long (returns c)
+    let x = c.args.x in
+    let mode = mode_short x.mode in
+    let delivery = delivery_short x.delivery in
+    let duration = duration_short x.duration in
+    let sub = sub_segments_short x.sub_segments in
+    let id : (2 ∷ c.from.result ∷ []) ≡ (2 ∷ x.segmentation_event_id.0 ∷ []) = cc in
+    let numbers : (c.from-2.result ∷ c.from-3.result ∷ c.from-4.result ∷ c.from-5.result ∷ c.from-6.result ∷ []) ≡ five x = cc in
+    let p1 = stands {m = c.args.list.now} (omega arith) (put_as _ _ id c.put-n.ensures) in
+    let p2 = behind (mode_numbers x.mode) p1 (simp length-append (omega arith)) c.mode-n.ensures in
+    let p3 = behind (delivery_numbers x.delivery) p2 (simp length-append (omega arith)) c.delivery-n.ensures in
+    let p4 = behind (duration_numbers x.duration) p3 (simp length-append (omega arith)) c.duration-n.ensures in
+    let p5 = behind (five x) p4 (simp length-append (omega arith)) (put_as _ _ numbers c.put-n-2.ensures) in
+    let p6 = behind (sub_segment_numbers x.sub_segments) p5 (simp length-append (omega arith)) c.sub_segments.ensures in
+    told (simp append_assoc) p6
