@@ -62,7 +62,7 @@ fn half(s: &[u8], i: usize) -> u64
     requires { i + 4 ≤ length s.now }
     ensures { (result ≡ num (bit s.now) (8 * i) 32) × (result < 2 ^ 32) }
 {
-    ((wide(s[i]) * 256 + wide(s[i + 1])) * 256 + wide(s[i + 2])) * 256 + wide(s[i + 3])
+    u64::from(u32::from_be_bytes([s[i], s[i + 1], s[i + 2], s[i + 3]]))
 }
 
 // The 64 bits from byte i on, where fewer than eight bytes are left.
@@ -81,11 +81,5 @@ fn last(s: &[u8], i: usize) -> u64
 fn byte(s: &[u8], i: usize) -> u64
     ensures { (result ≡ get_or s.now i 0) × (result < 256) }
 {
-    if i < s.len() { wide(s[i]) } else { 0 }
-}
-
-fn wide(x: u8) -> u64
-    ensures { (result ≡ x) × (result < 256) }
-{
-    x as u64
+    s.get(i).map_or(0, |x| u64::from(*x))
 }

@@ -94,7 +94,7 @@ one_kept b h = shl_exact 1 b 64 (lit< tt) (omega arith) ∙ one-mul (2 ^ b)
 
 -- bytes of which some were stored from a word of patched bits are the bytes of the patched bits
 pub scattered : (s : List ℕ) (at w v i n : ℕ) (t : List ℕ) → AreBytes s
-    → Scattered s i n (num (patched (bit s) at w v) (8 * i) (8 * n)) n t
+    → Scattered s i n (num (patched (bit s) at w v) (8 * i) (8 * n)) t
     → 8 * i ≤ at → at + w ≤ 8 * (i + n)
     → t ≡ bytes_of (patched (bit s) at w v) (length s)
 unfolding bytes_of byte_of

@@ -51,12 +51,10 @@ fn joined(first: u8, before: usize, value: u64, width: usize, last: u8, after: u
     (((((first as u64) >> (8 - before)) << width) + value) << after) + (last as u64) % (1 << after)
 }
 
-// Stores the n bytes of word from byte i on.
+// Stores the last n bytes of word from byte i on.
 fn scatter(s: &mut [u8], i: usize, n: usize, word: u64)
     requires { (n ≤ 8) × (i + n ≤ length s.old) }
-    ensures { Scattered s.old i n word n s.new }
+    ensures { Scattered s.old i n word s.new }
 {
-    for k in 0..n {
-        s[i + k] = ((word >> (8 * (n - 1 - k))) % 256) as u8;
-    }
+    s[i..i + n].copy_from_slice(&word.to_be_bytes()[8 - n..]);
 }

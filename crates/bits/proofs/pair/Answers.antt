@@ -1,10 +1,9 @@
 -- `bits::pair` meets its contract: two bytes make 16 bits, and outside the bytes the field is 0.
 -- Assumes nothing.
-use mathlib.Core.Path.{sym, ap₂, ◌∙◌}
-use Prim.Native.Nat.{ℕ, ◌+◌, ◌*◌, ◌≤◌}
+use mathlib.Core.Path.{sym}
+use Prim.Native.Nat.{◌*◌}
 use native.Mathlib.Omega.{arith}
 use lib.Dec.{lit≤}
-use lib.ListN.{length}
 use Rattle.bit_fields.proofs.Bytes.{num_pair}
 use Rattle.bit_fields.proofs.Within.{past_end, field_out, field_there}
 use Rattle.bits.proofs.pair.Goals as goal
@@ -21,8 +20,6 @@ returns-then-s-i c =
 
 pub returns : goal.returns
 returns c =
-    let a = c.args in
-    let s = a.s.now in
-    let inside : 8 * a.i + 16 ≤ 8 * length s = omega arith in
-    ap₂ (λ (x y : ℕ). 256 * x + y) c.wide.ensures.0 c.wide-2.ensures.0
-    ∙ sym (field_there s (8 * a.i) 16 (lit≤ tt) inside ∙ num_pair s (λ k. (c.type_inv.s k).fits) a.i)
+    let s = c.args.s.now in
+    let i = c.args.i in
+    omega (arith, num_pair s (λ k. (c.type_inv.s k).fits) i, field_there s (8 * i) 16 (lit≤ tt) (omega arith))

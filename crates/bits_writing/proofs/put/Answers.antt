@@ -39,7 +39,7 @@ returns c =
     let are_bytes : AreBytes c.args.s.now = λ i. (c.slice_known-1.given i).fits in
     let a = c.args in
     let n = (a.at % 8 + a.width + 7) / 8 in
-    let stored : Scattered a.s.now (a.at / 8) n c.changed-word.result n c.scatter.new.s =
+    let stored : Scattered a.s.now (a.at / 8) n c.changed-word.result c.scatter.new.s =
     c.scatter.ensures in
     scattered a.s.now a.at a.width a.value (a.at / 8) n c.scatter.new.s
     (are_bytes)

@@ -1,49 +1,53 @@
--- `bits_writing::scatter` meets its contract. The loop's invariant: the bytes passed are stored, and all others are as they were.
+-- `bits_writing::scatter` meets its contract: byte k of the last n of a word's eight is the word moved down by the bits behind it.
 -- Assumes nothing.
-use mathlib.Core.Path.{◌≡◌, refl, subst, ◌∙◌}
+use mathlib.Core.Path.{◌≡◌, refl, ap, ◌∙◌}
 use mathlib.Core.List.{List}
-use Prim.Native.Nat.{ℕ, ◌+◌, ◌-◌, ◌*◌, ◌/◌, ◌%◌, ◌^◌, ◌<◌}
+use Prim.Native.Nat.{ℕ, zero, suc, ◌+◌, ◌-◌, ◌*◌, ◌/◌, ◌%◌, ◌^◌, ◌<◌}
+use native.Mathlib.Nat.{pow-succ'}
 use native.Mathlib.Omega.{arith}
-use borrow.Author.Count.{below_more}
-use lib.ListN.{length, get_or, set, length-set}
-use lib.Seq.{get_or-set_same, get_or-set_other}
-use Rattle.bits_writing.specs.Scattered.{Scattered}
+use lib.Pow.{pow-add}
+use borrow.Rule.Slice.PartMut.{put_mid, same_len_mid}
+use lib.ListN.{get_or}
+use Rattle.std.proofs.Common.{rules}
+use Rattle.std.proofs.lemmas.List.{places}
+use Rattle.std.specs.Int.{byte_at, bytes_high_first}
 use Rattle.bits_writing.proofs.scatter.Goals as goal
 
--- no byte stored yet
-none : (s : List ℕ) (i n word : ℕ) → Scattered s i n word 0 s
-none s i n word = record { long = refl; here = λ k h. absurd (omega arith); before = λ k h. refl; after = λ k h. refl }
+-- a byte is eight bits
+byte_bits : (j : ℕ) → 256 ^ j ≡ 2 ^ (8 * j)
+byte_bits zero = refl
+byte_bits (suc j) =
+    let eight : 2 ^ (8 * suc j) ≡ 2 ^ 8 * 2 ^ (8 * j) = ap (λ (k : ℕ). 2 ^ k) (omega arith) ∙ pow-add 2 8 (8 * j) in
+    omega (arith, pow-succ' 256 j, byte_bits j, eight)
 
--- one byte more
-more : (s : List ℕ) (i n word : ℕ) (t : List ℕ) (m : ℕ) → i + m < length t → Scattered s i n word m t
-    → Scattered s i n word (m + 1) (set t (i + m) (word / 2 ^ (8 * (n - 1 - m)) % 256))
-more s i n word t m h known =
-    let v : ℕ = word / 2 ^ (8 * (n - 1 - m)) % 256 in
-    record {
-      long = length-set t (i + m) v ∙ known.long;
-      here =
-          below_more (λ (j : ℕ). get_or (set t (i + m) v) (i + j) 0 ≡ word / 2 ^ (8 * (n - 1 - j)) % 256) m
-          (λ j l. get_or-set_other t (i + m) (i + j) v 0 (omega arith) ∙ known.here j l)
-          (get_or-set_same t (i + m) v 0 h);
-      before = λ k l. get_or-set_other t (i + m) k v 0 (omega arith) ∙ known.before k l;
-      after = λ k l. get_or-set_other t (i + m) k v 0 (omega arith) ∙ known.after k (omega arith);
-    }
+-- byte j of a number, the lowest of which is byte 0
+shifted : (j x : ℕ) → byte_at j x ≡ x / 2 ^ (8 * j) % 256
+shifted zero x = omega arith
+shifted (suc j) x = ap (λ (d : ℕ). x / d % 256) (byte_bits (suc j))
 
-pub loop-k-init : goal.loop-k-init
-loop-k-init c = (omega arith, none _ _ _ _)
-
-pub bounds-s-i : goal.bounds-s-i
-bounds-s-i c = omega (arith, c.loop-k.invariant.1.long)
-
-pub loop-k-preserved : goal.loop-k-preserved
-loop-k-preserved c =
-    (omega arith, more c.args.s.now c.args.i c.args.n c.args.word c.loop-k.s c.loop-k.k (omega (arith, c.loop-k.invariant.1.long)) c.loop-k.invariant.1)
-
-pub shape_of-s : goal.shape_of-s
-shape_of-s c = c.loop-k.invariant.1.long
+-- byte k of the lowest n, the highest of them first
+high : (n x k : ℕ) → k < n → get_or (bytes_high_first n x) k 0 ≡ byte_at (n - 1 - k) x
+high zero x k h = absurd (omega arith)
+high (suc n) x zero h = ap (λ (j : ℕ). byte_at j x) (omega arith)
+high (suc n) x (suc k) h = high n x k (omega arith) ∙ ap (λ (j : ℕ). byte_at j x) (omega arith)
 
 pub returns : goal.returns
 returns c =
-    let a = c.args in
-    let all : c.loop-k.k ≡ a.n = omega arith in
-    subst (λ (m : ℕ). Scattered a.s.now a.i a.n a.word m c.loop-k.s) all c.loop-k.invariant.1
+    let s = c.args.s.now in
+    let i = c.args.i in
+    let n = c.args.n in
+    record {
+      long = same_len_mid i _ s _ c.copy_from_slice.ensures.len;
+      here =
+          λ k h.
+          let own : get_or (put_mid i (i + n - i) s c.copy_from_slice.new.self) (i + k) 0 ≡ get_or c.copy_from_slice.new.self k 0 = search (rules, places) in
+          let last : get_or c.copy_from_slice.new.self k 0 ≡ get_or c.to_be_bytes.result (8 - n + k) 0 = ap (λ (l : List ℕ). get_or l k 0) c.copy_from_slice.ensures.after ∙ search (rules, places) in
+          own
+          ∙ last
+          ∙ ap (λ (l : List ℕ). get_or l (8 - n + k) 0) c.to_be_bytes.ensures
+          ∙ high 8 c.args.word (8 - n + k) (omega arith)
+          ∙ ap (λ (j : ℕ). byte_at j c.args.word) (omega arith)
+          ∙ shifted (n - 1 - k) c.args.word;
+      before = λ k h. search (rules, places);
+      after = λ k h. search (rules, places);
+    }
