@@ -81,9 +81,7 @@ fn few(s: &[u8]) -> u64
     ensures { result ≡ num (bit s.now) 0 64 }
 {
     let mut x: u64 = 0;
-    let mut i = s.len();
-    while 0 < i {
-        i -= 1;
+    for i in (0..s.len()).rev() {
         x = (x >> 8) + (byte(s, i) << 56);
     }
     x
@@ -94,10 +92,8 @@ fn few(s: &[u8]) -> u64
 fn turn(a: u32, b: u32) -> u32
     ensures { result ≡ bit_xor (zeros 64 a) (zeros 32 b) }
 {
-    let words = [a, b];
     let mut y: u64 = 0;
-    for k in 0..2 {
-        let w = words[k];
+    for w in [a, b] {
         y = (y >> 32)
             ^ crc_table_0::ahead(w)
             ^ crc_table_1::ahead(w)

@@ -1,4 +1,4 @@
--- `crc::few` meets its contract. The loop's invariant: x is the number of the eight bytes from i on. The measure is i.
+-- `crc::few` meets its contract. The loop's invariant: x is the number of the eight bytes from i on.
 -- Assumes nothing.
 use mathlib.Core.Path.{◌≡◌, sym, ap, ◌∙◌}
 use Prim.Native.Nat.{ℕ, ◌+◌, ◌-◌, ◌*◌}
@@ -8,25 +8,23 @@ use Rattle.crc.proofs.Gathered.{none, room, before}
 use Rattle.crc.proofs.few.Goals as goal
 
 pub loop-i-init : goal.loop-i-init
-loop-i-init c = (omega arith, none _)
+loop-i-init c = none _
 
 pub overflow_add-x : goal.overflow_add-x
 overflow_add-x c =
     let l = c.loop-i in
-    record { fits = room _ l.i l.x _ l.invariant.1 c.byte.ensures.1 }
+    record { fits = room _ l.i l.x _ l.invariant c.byte.ensures.1 }
 
 pub loop-i-preserved : goal.loop-i-preserved
 loop-i-preserved c =
     let l = c.loop-i in
     let s = c.args.s.now in
-    let back : l.i - 1 + 1 ≡ l.i = omega arith in (
-      omega arith,
-      before s (l.i - 1) l.x _ (l.invariant.1 ∙ ap (λ (k : ℕ). num (bit s) (8 * k) 64) (sym back)) c.byte.ensures.0 c.byte.ensures.1,
-    )
+    let back : l.i - 1 + 1 ≡ l.i = omega arith in
+    before s (l.i - 1) l.x _ (l.invariant ∙ ap (λ (k : ℕ). num (bit s) (8 * k) 64) (sym back)) c.byte.ensures.0 c.byte.ensures.1
 
 pub returns : goal.returns
 returns c =
     let l = c.loop-i in
     let s = c.args.s.now in
     let all : l.i ≡ 0 = omega arith in
-    l.invariant.1 ∙ ap (λ (k : ℕ). num (bit s) (8 * k) 64) all
+    l.invariant ∙ ap (λ (k : ℕ). num (bit s) (8 * k) 64) all
