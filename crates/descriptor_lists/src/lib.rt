@@ -8,37 +8,40 @@ ghost use Rattle.std.specs.Prelude.{◌≡◌};
 ghost use Rattle.known_walk.specs.Known.{known_trace};
 ghost use Rattle.descriptor_reading.specs.Descriptor.{dtmf_char_of, segmentation_component_of, audio_component_of};
 
-use descriptor_reading::{AudioComponent, DtmfChar, SegmentationComponent};
+use descriptor_reading::{AudioComponent, SegmentationComponent};
 use descriptors::Cursor;
-use known_walk::Place;
 use units::Refusal;
 
 // Character m of known descriptor n.
-pub fn dtmf_char(s: &[u8], cursor: Cursor, n: usize, m: usize) -> DtmfChar
+pub fn dtmf_char(s: &[u8], cursor: Cursor, n: usize, m: usize) -> Result<u8, Refusal>
     ensures { result ≡ dtmf_char_of (known_trace s.now cursor n) m }
 {
-    let Place::At(at) = known_walk::known(s, cursor, n) else {
-        return DtmfChar::Refused(Refusal::NotHere);
-    };
+    let at = known_walk::known(s, cursor, n).ok_or(Refusal::NotHere)?;
     parts::dtmf_char(s, at, m)
 }
 
 // Component m of known descriptor n, a segmentation descriptor.
-pub fn segmentation_component(s: &[u8], cursor: Cursor, n: usize, m: usize) -> SegmentationComponent
+pub fn segmentation_component(
+    s: &[u8],
+    cursor: Cursor,
+    n: usize,
+    m: usize,
+) -> Result<SegmentationComponent, Refusal>
     ensures { result ≡ segmentation_component_of (known_trace s.now cursor n) m }
 {
-    let Place::At(at) = known_walk::known(s, cursor, n) else {
-        return SegmentationComponent::Refused(Refusal::NotHere);
-    };
+    let at = known_walk::known(s, cursor, n).ok_or(Refusal::NotHere)?;
     parts::segmentation_component(s, at, m)
 }
 
 // Component m of known descriptor n, an audio descriptor.
-pub fn audio_component(s: &[u8], cursor: Cursor, n: usize, m: usize) -> AudioComponent
+pub fn audio_component(
+    s: &[u8],
+    cursor: Cursor,
+    n: usize,
+    m: usize,
+) -> Result<AudioComponent, Refusal>
     ensures { result ≡ audio_component_of (known_trace s.now cursor n) m }
 {
-    let Place::At(at) = known_walk::known(s, cursor, n) else {
-        return AudioComponent::Refused(Refusal::NotHere);
-    };
+    let at = known_walk::known(s, cursor, n).ok_or(Refusal::NotHere)?;
     parts::audio_component(s, at, m)
 }

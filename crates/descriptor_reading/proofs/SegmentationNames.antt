@@ -1,6 +1,6 @@
 -- The rows of a segmentation descriptor by their names: the value of each is that of the field at its place.
 -- Assumes nothing.
-use mathlib.Core.Path.{◌≡◌, refl, ap, ap₂, ◌∙◌}
+use mathlib.Core.Path.{◌≡◌, refl, ap, ◌∙◌}
 use mathlib.Core.Bool.{Bool, true, false, cond}
 use mathlib.Core.List.{List, [], ◌∷◌, ◌++◌, append-nil, append_assoc}
 use Prim.Native.Nat.{ℕ, ◌+◌, ◌*◌, ◌≤◌, ◌<◌}
@@ -19,10 +19,10 @@ use Rattle.grammar.proofs.Each.{all, Each, each_append, each_values}
 use Rattle.grammar.proofs.Traces.{size_append}
 use Rattle.grammar.proofs.Telling.{many}
 use Rattle.grammar.proofs.Names.{other, look_past, look_none, all_past, all_none, part_past, part_many, each_many, fields_from, all_many}
-use Rattle.segmentation_reading.specs.declared.answers.Mode.{Mode}
-use Rattle.segmentation_reading.specs.declared.answers.Delivery.{Delivery}
-use Rattle.segmentation_reading.specs.declared.answers.Duration.{Duration}
-use Rattle.segmentation_reading.specs.declared.answers.SubSegments.{SubSegments}
+use Rattle.std.specs.Prelude.{Option, Some, None}
+use Rattle.units.specs.declared.mode.Mode.{Mode}
+use Rattle.segmentation_reading.specs.declared.answers.Restrictions.{Restrictions}
+use Rattle.segmentation_reading.specs.declared.answers.SubSegment.{SubSegment}
 use Rattle.descriptor_reading.specs.Descriptor.{mode_of, delivery_of, duration_of, sub_segments_of, through}
 use Rattle.segmentation_reading.specs.Places.{after_components, upid_place, after_upid, mode_at, delivery_at, duration_at, sub_segments_at}
 use Rattle.descriptor_reading.proofs.SegmentationRows as table
@@ -143,6 +143,12 @@ module _ (s : List ℕ) (at : ℕ) where
 
 -- ---- the values under their names
 
+-- what delivery is restricted to, by the four fields
+abbrev restricted : Bool → Bool → Bool → ℕ → Option Restrictions
+restricted web regional archive devices =
+    Some
+    (record { web_delivery_allowed_flag = web; no_regional_blackout_flag = regional; archive_allowed_flag = archive; device_restrictions = devices })
+
 module _ (s : List ℕ) (at : ℕ) where
   pub id_there : (w : Trace) → at + 11 ≤ length s
       → look (headed s at (values table.event (bit s) (8 * (at + 6)) ++ w)) "segmentation_event_id" ≡ field_of s (8 * (at + 6)) 32
@@ -216,22 +222,22 @@ module _ (s : List ℕ) (at : ℕ) where
 
     restrictions_told : flag_of s (8 * (at + 6 + 5) + 2) ≡ false
         → let k = 8 * (at + 6 + 5) in
-        Delivery.Restricted (is_set t "web_delivery_allowed_flag") (is_set t "no_regional_blackout_flag") (is_set t "archive_allowed_flag")
+        restricted (is_set t "web_delivery_allowed_flag") (is_set t "no_regional_blackout_flag") (is_set t "archive_allowed_flag")
         (look t "device_restrictions")
-        ≡ Delivery.Restricted (flag_of s (k + 3)) (flag_of s (k + 4)) (flag_of s (k + 5)) (field_of s (k + 6) 2)
+        ≡ restricted (flag_of s (k + 3)) (flag_of s (k + 4)) (flag_of s (k + 5)) (field_of s (k + 6) 2)
     unfolding delivery_rows look values
     restrictions_told e =
         let k : ℕ = 8 * (at + 6 + 5) in
         rw e
         (λ i.
-        Delivery.Restricted (flag_set s (k + 3) (k + 3) refl (omega (arith, low)) i) (flag_set s (k + 3 + 1) (k + 4) (omega arith) (omega (arith, low)) i)
+        restricted (flag_set s (k + 3) (k + 3) refl (omega (arith, low)) i) (flag_set s (k + 3 + 1) (k + 4) (omega arith) (omega (arith, low)) i)
         (flag_set s (k + 3 + 1 + 1) (k + 5) (omega arith) (omega (arith, low)) i)
         (there s (k + 3 + 1 + 1 + 1) (k + 6) 2 (omega arith) (omega arith) (omega (arith, low)) i))
 
     pub delivery_told : delivery_of t ≡ delivery_at s (at + 6)
     delivery_told =
-        ap (λ (v : Bool). cond v Delivery.NotRestricted
-        (Delivery.Restricted (is_set t "web_delivery_allowed_flag") (is_set t "no_regional_blackout_flag") (is_set t "archive_allowed_flag")
+        ap (λ (v : Bool). cond v None
+        (restricted (is_set t "web_delivery_allowed_flag") (is_set t "no_regional_blackout_flag") (is_set t "archive_allowed_flag")
         (look t "device_restrictions")))
         not_restricted_told
         ∙ cond_same (flag_of s (8 * (at + 6 + 5) + 2)) (λ e. refl) restrictions_told
@@ -239,11 +245,11 @@ module _ (s : List ℕ) (at : ℕ) where
     pub duration_told : duration_of t ≡ duration_at s (at + 6)
     unfolding duration_rows look values
     duration_told =
-        ap (λ (v : Bool). cond v (Duration.Present (ticks (look t "segmentation_duration"))) Duration.Absent) duration_flag_told
+        ap (λ (v : Bool). cond v (Some (ticks (look t "segmentation_duration"))) None) duration_flag_told
         ∙ cond_same (flag_of s (8 * (at + 6 + 5) + 1))
         (λ e.
         let k : ℕ = 8 * after_components s (at + 6) in
-        ap (λ (x : ℕ). Duration.Present (ticks x))
+        ap (λ (x : ℕ). Some (ticks x))
         (to_components "segmentation_duration" refl refl
         ∙ look_past "segmentation_duration" (component_rows s (at + 6)) _ (components_each s at "segmentation_duration" refl refl)
         ∙ rw e (there s k k 40 refl (omega arith) (omega (arith, lasts e)))))
@@ -252,8 +258,8 @@ module _ (s : List ℕ) (at : ℕ) where
 -- ---- from the UPID on
 
 -- the answer by what the rows have of the two names
-abbrev pub sub_answer : List ℕ → ℕ → ℕ → SubSegments
-sub_answer found number expected = cond (ltb 0 (length found)) (SubSegments.Present number expected) SubSegments.Absent
+abbrev pub sub_answer : List ℕ → ℕ → ℕ → Option SubSegment
+sub_answer found number expected = cond (ltb 0 (length found)) (Some (record { sub_segment_num = number; sub_segments_expected = expected })) None
 
 module _ (s : List ℕ) (stop u : ℕ) where
   -- the rows from segmentation_type_id on
@@ -339,8 +345,8 @@ module _ (s : List ℕ) (stop u : ℕ) (inside : stop ≤ length s) (fits : afte
       go : (v : Bool) {x y : ℕ} → (v ≡ true → num (bit s) (8 * (after_upid s u + 3)) 8 ≡ x)
           → (v ≡ true → num (bit s) (8 * (after_upid s u + 3) + 8) 8 ≡ y)
           → let r = values table.numbers (bit s) (8 * after_upid s u) ++ cond v (values table.sub_numbers (bit s) (8 * (after_upid s u + 3))) [] in
-          sub_answer (all_of r "sub_segment_num") (look r "sub_segment_num") (look r "sub_segments_expected") ≡ cond v (SubSegments.Present x y) SubSegments.Absent
-      go true h l = ap₂ SubSegments.Present (h refl) (l refl)
+          sub_answer (all_of r "sub_segment_num") (look r "sub_segment_num") (look r "sub_segments_expected") ≡ cond v (Some (record { sub_segment_num = x; sub_segments_expected = y })) None
+      go true h l = λ i. Some (record { sub_segment_num = h refl i; sub_segments_expected = l refl i })
       go false h l = refl
 
 -- ---- the UPID

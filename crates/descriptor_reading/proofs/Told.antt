@@ -19,10 +19,8 @@ use Rattle.grammar.specs.Names.{look, is_set, all_of}
 use Rattle.descriptors.specs.declared.Kind.{Kind}
 use Rattle.descriptors.specs.Walk.{kind_of, table_of}
 use Rattle.descriptor_reading.specs.declared.answers.Descriptor.{Descriptor}
-use Rattle.descriptor_reading.specs.declared.answers.DtmfChar.{DtmfChar}
-use Rattle.descriptor_reading.specs.declared.answers.SegmentationComponent.{SegmentationComponent}
-use Rattle.descriptor_reading.specs.declared.answers.AudioComponent.{AudioComponent}
-use Rattle.descriptor_reading.specs.declared.answers.Upid.{Upid}
+use Rattle.descriptor_reading.specs.declared.answers.Part.{Part}
+use Rattle.std.specs.Prelude.{Result, Ok, Err}
 use Rattle.descriptor_reading.specs.Descriptor.{segmentation_of, descriptor_of, dtmf_char_of, segmentation_component_of, audio_component_of, through, upid_of}
 use Rattle.known_walk.specs.Places.{Stands}
 use Rattle.segmentation_reading.specs.Places.{upid_place}
@@ -49,8 +47,8 @@ both {a' = a'} {b} {b'} e h = ap (λ (c : Bool). c && b) e ∙ go a' h
     go false q = refl
 
 -- an empty list has no character
-no_char : (m : ℕ) → cond (ltb m (length {A = ℕ} [])) (DtmfChar.Char (get_or [] m 0)) (DtmfChar.Refused Refusal.NotHere) ≡ DtmfChar.Refused Refusal.NotHere
-no_char m = ap (λ (b : Bool). cond b (DtmfChar.Char (get_or [] m 0)) (DtmfChar.Refused Refusal.NotHere)) (le-ltb m 0 (omega arith))
+no_char : (m : ℕ) → cond {A = Result ℕ Refusal} (ltb m (length {A = ℕ} [])) (Ok (get_or [] m 0)) (Err Refusal.NotHere) ≡ Err Refusal.NotHere
+no_char m = ap (λ (b : Bool). cond {A = Result ℕ Refusal} b (Ok (get_or [] m 0)) (Err Refusal.NotHere)) (le-ltb m 0 (omega arith))
 
 -- ---- a descriptor that is there
 
@@ -81,26 +79,26 @@ module _ (s : List ℕ) (at : ℕ) (t : Trace) (h : Stands s at t) (kind : kind_
       ∙ table.cancel_told s at h.stop h.env h.body h.inside reads
 
   upid_part : flag_of s (8 * (at + 10)) ≡ false
-      → Upid.Part (at + size (through "segmentation_upid_length" t) / 8) (look t "segmentation_upid_length")
-      ≡ Upid.Part (upid_place s (at + 6) + 2) (field_of s (8 * (upid_place s (at + 6) + 1)) 8)
+      → ◌≡◌ {A = Part} (record { at = at + size (through "segmentation_upid_length" t) / 8; length = look t "segmentation_upid_length" })
+      (record { at = upid_place s (at + 6) + 2; length = field_of s (8 * (upid_place s (at + 6) + 1)) 8 })
   upid_part kept =
       let u =
       subst (λ (x : Trace). UpidStands at x (upid_place s (at + 6) + 2) (field_of s (8 * (upid_place s (at + 6) + 1)) 8)) (sym h.rows)
       (table.upid_told s at h.stop h.env h.body h.inside reads kept) in
       let starts : at + size (through "segmentation_upid_length" t) / 8 ≡ upid_place s (at + 6) + 2 = omega (arith, u.starts) in
-      λ i. Upid.Part (starts i) (u.long i)
+      λ i. record { at = starts i; length = u.long i }
 
 module _ (s : List ℕ) (at : ℕ) (t : Trace) where
   pub descriptor_told : Stands s at t → descriptor_of t ≡ descriptor_at s at
   unfolding descriptor_of descriptor_at
   descriptor_told h =
-      agree (is_tag_lem s at t h 0) (λ e i. Descriptor.Avail (avail_values s at t h (kind_is s at t h Kind.Avail e) i))
+      agree (is_tag_lem s at t h 0) (λ e i. Ok (Descriptor.Avail (avail_values s at t h (kind_is s at t h Kind.Avail e) i)))
       (agree (is_tag_lem s at t h 1)
-      (λ e. let d = dtmf_values s at t h (kind_is s at t h Kind.Dtmf e) in λ i. Descriptor.Dtmf (d.preroll i) (d.count i))
-      (agree (is_tag_lem s at t h 2) (λ e. segmented s at t h (kind_is s at t h Kind.Segmentation e))
+      (λ e. let d = dtmf_values s at t h (kind_is s at t h Kind.Dtmf e) in λ i. Ok (Descriptor.Dtmf (d.preroll i) (d.count i)))
+      (agree (is_tag_lem s at t h 2) (λ e. ap Ok (segmented s at t h (kind_is s at t h Kind.Segmentation e)))
       (agree (is_tag_lem s at t h 3)
-      (λ e. let d = time_values s at t h (kind_is s at t h Kind.Time e) in λ i. Descriptor.Time (d.seconds i) (d.nanoseconds i) (d.offset i))
-      (agree (is_tag_lem s at t h 4) (λ e i. Descriptor.Audio (audio_count s at t h (kind_is s at t h Kind.Audio e) i)) refl))))
+      (λ e. let d = time_values s at t h (kind_is s at t h Kind.Time e) in λ i. Ok (Descriptor.Time (d.seconds i) (d.nanoseconds i) (d.offset i)))
+      (agree (is_tag_lem s at t h 4) (λ e i. Ok (Descriptor.Audio (audio_count s at t h (kind_is s at t h Kind.Audio e) i))) refl))))
 
   pub upid_told : Stands s at t → upid_of at t ≡ upid_at s at
   unfolding upid_of upid_at
@@ -109,8 +107,9 @@ module _ (s : List ℕ) (at : ℕ) (t : Trace) where
       let cancelled : Bool = flag_of s (8 * (at + 10)) in
       agree (both (is_tag_lem s at t h 2) (λ e. ap not (cancel s at t h (kind_is s at t h Kind.Segmentation e))))
       (λ e.
-      upid_part s at t h (kind_is s at t h Kind.Segmentation (and_left tag (not cancelled) e))
-      (not-true cancelled (and_right tag (not cancelled) e)))
+      ap Ok
+      (upid_part s at t h (kind_is s at t h Kind.Segmentation (and_left tag (not cancelled) e))
+      (not-true cancelled (and_right tag (not cancelled) e))))
       refl
 
 module _ (s : List ℕ) (at : ℕ) (t : Trace) (m : ℕ) where
@@ -124,7 +123,7 @@ module _ (s : List ℕ) (at : ℕ) (t : Trace) (m : ℕ) where
       let d =
       component s at t h (kind_is s at t h Kind.Segmentation (and_left tag (ltb m count) e)) m
       (ltb-true m count (and_right tag (ltb m count) e)) in
-      λ i. SegmentationComponent.Component (d.tag i) (ticks (d.offset i)))
+      λ i. Ok (record { component_tag = d.tag i; pts_offset = ticks (d.offset i) }))
       refl
 
   pub dtmf_told : Stands s at t → dtmf_char_of t m ≡ dtmf_char_at s at m
@@ -132,15 +131,15 @@ module _ (s : List ℕ) (at : ℕ) (t : Trace) (m : ℕ) where
   dtmf_told h =
       ap (λ (b : Bool). chosen (cond b (all_of t "DTMF_char") [])) (is_tag_lem s at t h 1) ∙ go (eqb (tag_at s at) 1) refl
     where
-      chosen : List ℕ → DtmfChar
-      chosen cs = cond (ltb m (length cs)) (DtmfChar.Char (get_or cs m 0)) (DtmfChar.Refused Refusal.NotHere)
+      chosen : List ℕ → Result ℕ Refusal
+      chosen cs = cond (ltb m (length cs)) (Ok (get_or cs m 0)) (Err Refusal.NotHere)
 
       go : (b : Bool) → eqb (tag_at s at) 1 ≡ b
           → chosen (cond b (all_of t "DTMF_char") [])
-          ≡ cond (b && ltb m (field_of s (8 * (at + 7)) 3)) (DtmfChar.Char (field_of s (8 * (at + 8 + m)) 8)) (DtmfChar.Refused Refusal.NotHere)
+          ≡ cond (b && ltb m (field_of s (8 * (at + 7)) 3)) (Ok (field_of s (8 * (at + 8 + m)) 8)) (Err Refusal.NotHere)
       go true e =
           let d = dtmf_values s at t h (kind_is s at t h Kind.Dtmf e) in
-          agree (ap (ltb m) d.long) (λ q i. DtmfChar.Char (d.char m (ltb-true m (field_of s (8 * (at + 7)) 3) q) i)) refl
+          agree (ap (ltb m) d.long) (λ q i. Ok (d.char m (ltb-true m (field_of s (8 * (at + 7)) 3) q) i)) refl
       go false e = no_char m
 
   pub audio_told : Stands s at t → audio_component_of t m ≡ audio_component_at s at m
@@ -153,27 +152,34 @@ module _ (s : List ℕ) (at : ℕ) (t : Trace) (m : ℕ) where
       let d =
       audio_values s at t h (kind_is s at t h Kind.Audio (and_left tag (ltb m count) e)) m
       (ltb-true m count (and_right tag (ltb m count) e)) in
-      λ i. AudioComponent.Component (d.tag i) (d.code i) (d.mode i) (d.channels i) (eqb (d.full i) 1))
+      λ i.
+      Ok (record {
+        component_tag = d.tag i;
+        iso_code = d.code i;
+        bit_stream_mode = d.mode i;
+        num_channels = d.channels i;
+        full_srvc_audio = eqb (d.full i) 1;
+      }))
       refl
 
 -- ---- no descriptor
 
-pub none_descriptor : descriptor_of [] ≡ Descriptor.Refused Refusal.NotHere
+pub none_descriptor : descriptor_of [] ≡ Err Refusal.NotHere
 unfolding descriptor_of look
 none_descriptor = refl
 
-pub none_dtmf : (m : ℕ) → dtmf_char_of [] m ≡ DtmfChar.Refused Refusal.NotHere
+pub none_dtmf : (m : ℕ) → dtmf_char_of [] m ≡ Err Refusal.NotHere
 unfolding dtmf_char_of look
 none_dtmf m = no_char m
 
-pub none_segmentation_component : (m : ℕ) → segmentation_component_of [] m ≡ SegmentationComponent.Refused Refusal.NotHere
+pub none_segmentation_component : (m : ℕ) → segmentation_component_of [] m ≡ Err Refusal.NotHere
 unfolding segmentation_component_of look
 none_segmentation_component m = refl
 
-pub none_audio : (m : ℕ) → audio_component_of [] m ≡ AudioComponent.Refused Refusal.NotHere
+pub none_audio : (m : ℕ) → audio_component_of [] m ≡ Err Refusal.NotHere
 unfolding audio_component_of look
 none_audio m = refl
 
-pub none_upid : (at : ℕ) → upid_of at [] ≡ Upid.Refused Refusal.NotHere
+pub none_upid : (at : ℕ) → upid_of at [] ≡ Err Refusal.NotHere
 unfolding upid_of look
 none_upid at = refl

@@ -20,7 +20,8 @@ use Rattle.grammar.specs.Names.{all_of}
 use Rattle.descriptors.specs.declared.Cursor.{Cursor}
 use Rattle.descriptors.specs.declared.Kind.{Kind}
 use Rattle.descriptors.specs.Walk.{table_of}
-use Rattle.descriptor_reading.specs.declared.answers.Upid.{Upid}
+use Rattle.descriptor_reading.specs.declared.answers.Part.{Part}
+use Rattle.std.specs.Prelude.{Result, Ok, Err}
 use Rattle.known_walk.specs.Known.{known_cursors, numbered, known_trace}
 use Rattle.descriptor_reading.specs.Descriptor.{upid_of, upid}
 use Rattle.known_walk.specs.Places.{Stands}
@@ -38,7 +39,7 @@ record Given (s : List ℕ) (at a l : ℕ) : Type 0 where
   starts : a ≡ upid_place s (at + 6) + 2
   long : l ≡ field_of s (8 * (upid_place s (at + 6) + 1)) 8
 
-is_given : (s : List ℕ) (at a l : ℕ) → upid_at s at ≡ Upid.Part a l → Given s at a l
+is_given : (s : List ℕ) (at a l : ℕ) → upid_at s at ≡ Ok (record { at = a; length = l }) → Given s at a l
 unfolding upid_at
 is_given s at a l = go (eqb (tag_at s at) 2 && not cancelled) refl
   where
@@ -49,20 +50,21 @@ is_given s at a l = go (eqb (tag_at s at) 2 && not cancelled) refl
     place = upid_place s (at + 6)
 
     go : (b : Bool) → (eqb (tag_at s at) 2 && not cancelled) ≡ b
-        → cond b (Upid.Part (place + 2) (field_of s (8 * (place + 1)) 8)) (Upid.Refused Refusal.NotHere) ≡ Upid.Part a l
+        → cond {A = Result Part Refusal} b (Ok (record { at = place + 2; length = field_of s (8 * (place + 1)) 8 })) (Err Refusal.NotHere) ≡ Ok (record { at = a; length = l })
         → Given s at a l
     go true e q =
+        let part : ◌≡◌ {A = Part} (record { at = place + 2; length = field_of s (8 * (place + 1)) 8 }) (record { at = a; length = l }) = cc in
         record {
           tag = and_left (eqb (tag_at s at) 2) (not cancelled) e;
           kept = not-true cancelled (and_right (eqb (tag_at s at) 2) (not cancelled) e);
-          starts = cc;
-          long = cc;
+          starts = sym (ap (λ (p : Part). p.at) part);
+          long = sym (ap (λ (p : Part). p.length) part);
         }
-    go false e q = let z : ◌≡◌ {A = ℕ} 0 1 = cc in absurd (omega arith)
+    go false e q = cc
 
 -- ---- of a descriptor that stands
 
-module _ (s : List ℕ) (at : ℕ) (t : Trace) (a l : ℕ) (h : Stands s at t) (e : upid_of at t ≡ Upid.Part a l) where
+module _ (s : List ℕ) (at : ℕ) (t : Trace) (a l : ℕ) (h : Stands s at t) (e : upid_of at t ≡ Ok (record { at = a; length = l })) where
   given : Given s at a l
   given = is_given s at a l (sym (upid_told s at t h) ∙ e)
 
@@ -83,16 +85,15 @@ module _ (s : List ℕ) (at : ℕ) (t : Trace) (a l : ℕ) (h : Stands s at t) (
 
 -- ---- of a known descriptor
 
-module _ (s : List ℕ) (c : Cursor) (n a l : ℕ) (e : upid s c n ≡ Upid.Part a l) where
+module _ (s : List ℕ) (c : Cursor) (n a l : ℕ) (e : upid s c n ≡ Ok (record { at = a; length = l })) where
   stands : Stands s (numbered (known_cursors s c) n).at (known_trace s c n)
   unfolding upid
   stands =
       ⊎_elim
       (λ none.
       let at : ℕ = (numbered (known_cursors s c) n).at in
-      let refused : Upid.Refused Refusal.NotHere ≡ Upid.Part a l = sym (none_upid at) ∙ ap (upid_of at) (sym none) ∙ e in
-      let z : ◌≡◌ {A = ℕ} 0 1 = cc in
-      absurd (omega arith))
+      let refused : Err Refusal.NotHere ≡ Ok (record { at = a; length = l }) = sym (none_upid at) ∙ ap (upid_of at) (sym none) ∙ e in
+      cc)
       (λ there. there)
       (stands_or_none s c n)
 

@@ -1,13 +1,6 @@
-// What a known descriptor says, by case.
+// What a known descriptor says.
 use segmentation_reading::Segmentation;
-use units::{EventId, Refusal, Ticks};
-
-// How many known descriptors there are.
-#[derive(Clone, Copy)]
-pub enum KnownCount {
-    Count(usize),
-    Refused(Refusal),
-}
+use units::{EventId, Ticks};
 
 // A known descriptor (Table 16).
 #[derive(Clone, Copy)]
@@ -27,43 +20,28 @@ pub enum Descriptor {
     },
     // With its audio_count.
     Audio(u8),
-    Refused(Refusal),
-}
-
-// A character of a DTMF descriptor.
-#[derive(Clone, Copy)]
-pub enum DtmfChar {
-    Char(u8),
-    Refused(Refusal),
 }
 
 // A component of a segmentation descriptor.
 #[derive(Clone, Copy)]
-pub enum SegmentationComponent {
-    Component {
-        component_tag: u8,
-        pts_offset: Ticks,
-    },
-    Refused(Refusal),
+pub struct SegmentationComponent {
+    pub component_tag: u8,
+    pub pts_offset: Ticks,
 }
 
 // A component of an audio descriptor (Table 28).
 #[derive(Clone, Copy)]
-pub enum AudioComponent {
-    Component {
-        component_tag: u8,
-        iso_code: u32,
-        bit_stream_mode: u8,
-        num_channels: u8,
-        full_srvc_audio: bool,
-    },
-    Refused(Refusal),
+pub struct AudioComponent {
+    pub component_tag: u8,
+    pub iso_code: u32,
+    pub bit_stream_mode: u8,
+    pub num_channels: u8,
+    pub full_srvc_audio: bool,
 }
 
-// Where the UPID bytes of a segmentation descriptor lie.
+// A part of the section: from a byte on, so many.
 #[derive(Clone, Copy)]
-pub enum Upid {
-    // From a byte of the section on, so many.
-    Part(usize, usize),
-    Refused(Refusal),
+pub struct Part {
+    pub at: usize,
+    pub length: usize,
 }

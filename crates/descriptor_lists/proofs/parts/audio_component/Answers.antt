@@ -6,7 +6,7 @@ use native.Mathlib.Omega.{arith}
 use borrow.Author.Tests.{eq-eqb, ne_eqb, lt-ltb, le-ltb}
 use Rattle.bits.specs.Bits.{field_of}
 use Rattle.bits.proofs.Fields.{field_lt}
-use Rattle.descriptor_reading.specs.declared.answers.AudioComponent.{AudioComponent}
+use Rattle.std.specs.Prelude.{Ok}
 use Rattle.descriptor_reading.specs.Places.{tag_at, audio_component_at}
 use Rattle.descriptor_lists.proofs.parts.audio_component.Goals as goal
 
@@ -87,5 +87,10 @@ returns c =
     let inside : a.m < count = omega (arith, c.if-audio_count-m.false, c.read-audio_count.ensures) in
     rw (eq-eqb (tag_at a.s.now a.at) 4 (sym c.octet.ensures ∙ c.if-octet-ne4.false), lt-ltb a.m count inside)
     (λ i.
-    AudioComponent.Component (c.read.ensures i) (c.read-2.ensures i) (c.read-3.ensures i)
-    (c.read-4.ensures i) (c.flag.ensures i))
+    Ok (record {
+      component_tag = c.read.ensures i;
+      iso_code = c.read-2.ensures i;
+      bit_stream_mode = c.read-3.ensures i;
+      num_channels = c.read-4.ensures i;
+      full_srvc_audio = c.flag.ensures i;
+    }))

@@ -6,7 +6,7 @@ use native.Mathlib.Omega.{arith}
 use borrow.Author.Tests.{eq-eqb, ne_eqb, lt-ltb, le-ltb}
 use Rattle.bits.specs.Bits.{field_of}
 use Rattle.bits.proofs.Fields.{field_lt}
-use Rattle.descriptor_reading.specs.declared.answers.DtmfChar.{DtmfChar}
+use Rattle.std.specs.Prelude.{Ok}
 use Rattle.descriptor_reading.specs.Places.{tag_at, dtmf_char_at}
 use Rattle.descriptor_lists.proofs.parts.dtmf_char.Goals as goal
 
@@ -36,4 +36,4 @@ returns c =
     let count = field_of a.s.now (8 * (a.at + 7)) 3 in
     let inside : a.m < count = omega (arith, c.if-dtmf_count-m.false, c.read-dtmf_count.ensures) in
     rw (eq-eqb (tag_at a.s.now a.at) 1 (sym c.octet.ensures ∙ c.if-octet-ne1.false), lt-ltb a.m count inside)
-    (λ i. DtmfChar.Char (c.octet-2.ensures i))
+    (λ i. Ok (c.octet-2.ensures i))

@@ -9,7 +9,7 @@ use borrow.Author.Tests.{eq-eqb, ne_eqb, lt-ltb, le-ltb}
 use Rattle.bits.specs.Bits.{flag_of}
 use Rattle.bits.proofs.Fields.{field_lt}
 use Rattle.units.specs.Clock.{ticks}
-use Rattle.descriptor_reading.specs.declared.answers.SegmentationComponent.{SegmentationComponent}
+use Rattle.std.specs.Prelude.{Ok}
 use Rattle.descriptor_reading.specs.Places.{tag_at, components_at, segmentation_component_at}
 use Rattle.descriptor_lists.proofs.parts.segmentation_component.Goals as goal
 
@@ -63,4 +63,4 @@ returns c =
     let count = components_at a.s.now (a.at + 6) in
     let inside : a.m < count = omega (arith, c.if-component_count-m.false, c.component_count.ensures) in
     rw (eq-eqb (tag_at a.s.now a.at) 2 (sym c.octet.ensures ∙ c.if-octet-ne2.false), lt-ltb a.m count inside)
-    (λ i. SegmentationComponent.Component (c.octet-2.ensures i) (ticks (c.read.ensures i)))
+    (λ i. Ok (record { component_tag = c.octet-2.ensures i; pts_offset = ticks (c.read.ensures i) }))

@@ -5,6 +5,7 @@ use Prim.Native.Nat.{ℕ, ◌+◌, ◌*◌}
 use native.Mathlib.Omega.{arith}
 use borrow.Author.Tests.{ne_eqb}
 use Rattle.bits.proofs.Fields.{field_lt}
+use Rattle.std.specs.Prelude.{Ok}
 use Rattle.descriptor_reading.specs.declared.answers.Descriptor.{Descriptor}
 use Rattle.descriptor_reading.specs.Places.{tag_at, segmentation_at, descriptor_at}
 use Rattle.descriptor_reading.proofs.parts.descriptor.Goals as goal
@@ -36,30 +37,30 @@ overflow_cast-result-in-4 c =
 
 pub returns-in-0 : goal.returns-in-0
 unfolding descriptor_at
-returns-in-0 c = rw (sym c.octet.ensures ∙ c.in-0.is) (λ i. Descriptor.Avail (c.quad.ensures i))
+returns-in-0 c = rw (sym c.octet.ensures ∙ c.in-0.is) (λ i. Ok (Descriptor.Avail (c.quad.ensures i)))
 
 pub returns-in-1 : goal.returns-in-1
 unfolding descriptor_at
 returns-in-1 c =
     rw (sym c.octet.ensures ∙ c.in-1.is)
-    (λ i. Descriptor.Dtmf (c.octet-in-1.ensures i) (c.read.ensures i))
+    (λ i. Ok (Descriptor.Dtmf (c.octet-in-1.ensures i) (c.read.ensures i)))
 
 pub returns-in-2 : goal.returns-in-2
 unfolding descriptor_at
 returns-in-2 c =
     let a = c.args in
     rw (sym c.octet.ensures ∙ c.in-2.is)
-    (c.segmentation.ensures ∙ ap (λ (n : ℕ). segmentation_at a.s.now (a.at + 6) (a.at + 2 + n)) c.octet-descriptor_length.ensures)
+    (ap Ok (c.segmentation.ensures ∙ ap (λ (n : ℕ). segmentation_at a.s.now (a.at + 6) (a.at + 2 + n)) c.octet-descriptor_length.ensures))
 
 pub returns-in-3 : goal.returns-in-3
 unfolding descriptor_at
 returns-in-3 c =
     rw (sym c.octet.ensures ∙ c.in-3.is)
-    (λ i. Descriptor.Time (c.read-in-3.ensures i) (c.quad-in-3.ensures i) (c.pair.ensures i))
+    (λ i. Ok (Descriptor.Time (c.read-in-3.ensures i) (c.quad-in-3.ensures i) (c.pair.ensures i)))
 
 pub returns-in-4 : goal.returns-in-4
 unfolding descriptor_at
-returns-in-4 c = rw (sym c.octet.ensures ∙ c.in-4.is) (λ i. Descriptor.Audio (c.read-in-4.ensures i))
+returns-in-4 c = rw (sym c.octet.ensures ∙ c.in-4.is) (λ i. Ok (Descriptor.Audio (c.read-in-4.ensures i)))
 
 pub returns-in_default : goal.returns-in_default
 unfolding descriptor_at

@@ -5,7 +5,7 @@ use Prim.Native.Nat.{ℕ, ◌+◌, ◌*◌}
 use native.Mathlib.Omega.{arith}
 use borrow.Author.Tests.{eq-eqb, ne_eqb}
 use Rattle.bits.specs.Bits.{field_of}
-use Rattle.descriptor_reading.specs.declared.answers.Upid.{Upid}
+use Rattle.std.specs.Prelude.{Ok}
 use Rattle.descriptor_reading.specs.Places.{tag_at, upid_at}
 use Rattle.segmentation_reading.proofs.Room.{upid_room}
 use Rattle.descriptor_reading.proofs.parts.upid.Goals as goal
@@ -44,4 +44,8 @@ returns c =
       eq-eqb (tag_at a.s.now a.at) 2 (sym c.octet.ensures ∙ c.if-octet-ne2.false),
       sym c.flag.ensures ∙ c.if-flag.false,
     )
-    (λ i. Upid.Part (place i + 2) ((c.octet-segmentation_upid_length.ensures ∙ ap (λ (x : ℕ). field_of a.s.now (8 * (x + 1)) 8) place) i))
+    (λ i.
+    Ok (record {
+      at = place i + 2;
+      length = (c.octet-segmentation_upid_length.ensures ∙ ap (λ (x : ℕ). field_of a.s.now (8 * (x + 1)) 8) place) i;
+    }))
