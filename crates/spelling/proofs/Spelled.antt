@@ -12,7 +12,7 @@ use borrow.Author.Tests.{lt-ltb, le-ltb, leb-true, leb-false}
 use Rattle.bits.proofs.Cases.{le_or_lt}
 use Rattle.units.specs.declared.refusals.Refusal.{Refusal}
 use Rattle.units.specs.declared.refusals.Refusal.TheVariants.{Room}
-use Rattle.units.specs.declared.refusals.Written.TheVariants.{Count, Refused}
+use Rattle.std.specs.Prelude.{Ok, Err}
 use Rattle.units.specs.Refusals.{number_of}
 use Rattle.units.specs.Answers.{answer, memory}
 use Rattle.units.specs.Put.{fits, put_into}
@@ -42,33 +42,33 @@ module _ (line : Line) (out : List ℕ) where
   by_room b e =
       (ap (λ (t : Bool). answer (cond t 11 0) (length (spelled line))) (sym e), ap (λ (t : Bool). memory (cond t 11 0) (spelled line) out) (sym e))
 
-  no_room : length out < length (spelled line) → (Refused Room ≡ spell_answer line out) × (out ≡ spell_into line out)
+  no_room : length out < length (spelled line) → (Err Room ≡ spell_answer line out) × (out ≡ spell_into line out)
   no_room h = by_room true (lt-ltb _ _ h)
 
   written : length (spelled line) ≤ length out
-      → (Count (length (spelled line)) ≡ spell_answer line out) × (spelled line ++ drop (length (spelled line)) out ≡ spell_into line out)
+      → (Ok (length (spelled line)) ≡ spell_answer line out) × (spelled line ++ drop (length (spelled line)) out ≡ spell_into line out)
   written h = by_room false (le-ltb _ _ h)
 
   -- by what `lent::put` says of the line's characters
   pub put_there : (p : List ℕ) → p ≡ spelled line → fits out 0 p ≡ true
-      → (Count (length (spelled line)) ≡ spell_answer line out) × (put_into out 0 p ≡ spell_into line out)
+      → (Ok (length (spelled line)) ≡ spell_answer line out) × (put_into out 0 p ≡ spell_into line out)
   put_there p e h =
       let is = written (omega (arith, leb-true (0 + length p) (length out) h, ap length e)) in
       (is.0, at_front out p h ∙ ap (λ (x : List ℕ). x ++ drop (length x) out) e ∙ is.1)
 
   pub put_nowhere : (p : List ℕ) → p ≡ spelled line → fits out 0 p ≡ false
-      → (Refused Room ≡ spell_answer line out) × (put_into out 0 p ≡ spell_into line out)
+      → (Err Room ≡ spell_answer line out) × (put_into out 0 p ≡ spell_into line out)
   put_nowhere p e h =
       let is = no_room (omega (arith, leb-false (0 + length p) (length out) h, ap length e)) in
       (is.0, unchanged out 0 p h ∙ is.1)
 
   -- and the other way round: what the answer says of the room and of the memory
-  pub spell_refused : (r : Refusal) → spell_answer line out ≡ Refused r → (length out < length (spelled line)) × (spell_into line out ≡ out)
+  pub spell_refused : (r : Refusal) → spell_answer line out ≡ Err r → (length out < length (spelled line)) × (spell_into line out ≡ out)
   spell_refused r e =
       ⊎_elim (λ h. absurd (let z : ◌≡◌ {A = ℕ} 0 1 = cc (written h).0 in omega arith)) (λ h. (h, sym (no_room h).1))
       (le_or_lt (length (spelled line)) (length out))
 
-  pub spell_counted : (n : ℕ) → spell_answer line out ≡ Count n
+  pub spell_counted : (n : ℕ) → spell_answer line out ≡ Ok n
       → (n ≡ length (spelled line)) × (n ≤ length out) × (spell_into line out ≡ spelled line ++ drop n out)
   spell_counted n e = ⊎_elim yes no (le_or_lt (length (spelled line)) (length out))
     where

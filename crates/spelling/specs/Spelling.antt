@@ -1,7 +1,7 @@
 -- How an answer line is spelled.
 -- Assumes nothing.
-use Rattle.std.specs.Prelude.{ℕ, zero, suc, ◌+◌, ◌/◌, ◌%◌, cond, List, [], ◌∷◌, ◌++◌, length, ltb}
-use Rattle.units.specs.declared.refusals.Written.{Written}
+use Rattle.std.specs.Prelude.{ℕ, zero, suc, ◌+◌, ◌/◌, ◌%◌, cond, List, [], ◌∷◌, ◌++◌, length, ltb, Result}
+use Rattle.units.specs.declared.refusals.Refusal.{Refusal}
 use Rattle.units.specs.Refusals.{number_of}
 use Rattle.units.specs.Answers.{answer, memory}
 use Rattle.spelling.specs.declared.Line.{Line}
@@ -31,7 +31,7 @@ unfoldable pub spell_row : Line → List ℕ → ℕ
 spell_row line out = cond (ltb (length out) (length (spelled line))) 11 0
 
 -- what spelling the line answers
-unfoldable pub spell_answer : Line → List ℕ → Written
+unfoldable pub spell_answer : Line → List ℕ → Result ℕ Refusal
 spell_answer line out = answer (spell_row line out) (length (spelled line))
 
 -- what the lent memory then holds

@@ -6,7 +6,7 @@ mod characters;
 ghost use Rattle.std.specs.Prelude.{◌≡◌};
 ghost use Rattle.spelling.specs.Spelling.{spell_answer, spell_into};
 
-use units::{Millis, Refusal, Written};
+use units::{Millis, Refusal};
 
 // What a line says of its text.
 #[derive(Clone, Copy)]
@@ -24,15 +24,15 @@ pub enum Line {
 }
 
 // The line as characters, its newline among them, written to the front of out.
-pub fn spell(line: Line, out: &mut [u8]) -> Written
+pub fn spell(line: Line, out: &mut [u8]) -> Result<usize, Refusal>
     ensures { (result ≡ spell_answer line out.old) × (out.new ≡ spell_into line out.old) }
 {
     // the longest line: a letter, a blank, twenty digits and a newline
     let mut characters = [0u8; 23];
     let n = characters::put(line, &mut characters);
     if lent::put(&characters[..n], out, 0) {
-        Written::Count(n)
+        Ok(n)
     } else {
-        Written::Refused(Refusal::Room)
+        Err(Refusal::Room)
     }
 }

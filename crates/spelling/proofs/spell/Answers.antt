@@ -1,7 +1,7 @@
 -- `spelling::spell` meets its contract, by whether the line's characters fit.
 -- Assumes nothing.
 use mathlib.Core.Path.{sym, ap, ◌∙◌}
-use Rattle.units.specs.declared.refusals.Written.TheVariants.{Count}
+use Rattle.std.specs.Prelude.{Ok}
 use Rattle.units.proofs.Put.{all, front, front_inside, front_count}
 use Rattle.spelling.proofs.Spelled.{short, put_there, put_nowhere}
 use Rattle.spelling.proofs.spell.Goals as goal
@@ -19,7 +19,7 @@ returns-then-put c =
     let a = c.args in
     let few = short a.line in
     let is = put_there a.line a.out.now _ (front put.ensures few) (sym put2.ensures.0 ∙ c.if-put.true) in
-    (ap Count (all put.ensures few) ∙ is.0, put2.ensures.1 ∙ is.1)
+    (ap Ok (all put.ensures few) ∙ is.0, put2.ensures.1 ∙ is.1)
 
 pub returns-else-put : goal.returns-else-put
 returns-else-put c =
