@@ -1,4 +1,3 @@
-pub mod Spans
 pub mod Trace
 pub mod Plans
 pub mod SheetRows

@@ -7,9 +7,11 @@ use mathlib.Core.List.{List, [], ◌∷◌, ◌++◌, append_assoc}
 use Prim.Native.Nat.{ℕ, suc, ◌+◌, ◌-◌, ◌*◌, ◌/◌, ◌^◌, ◌≤◌, ◌<◌}
 use native.Mathlib.Omega.{arith}
 use lib.ListN.{length, get_or, take, drop, length-append}
-use lib.Seq.{sets, sets-eq, take-append_seam, length-take-le}
+use lib.Seq.{sets-eq, take-append_seam, length-take-le}
 use borrow.Author.Tests.{ne_eqb, lt-ltb}
 use Rattle.units.proofs.Put.{sets_append}
+use Rattle.std.proofs.lemmas.List.{take_at, drop_at}
+use borrow.Rule.Slice.PartMut.{put_mid, Post-is}
 use Rattle.bits.specs.Bits.{bit, num, field_of, read_all}
 use Rattle.bits.proofs.Num.{num_lt}
 use Rattle.bits.proofs.Bytes.{bit_lt}
@@ -17,14 +19,14 @@ use Rattle.bits.proofs.Within.{field_there}
 use Rattle.grammar.specs.Meaning.{width_of, values}
 use Rattle.grammar.specs.Traces.{Trace, rows_of, size, numbers, Spans}
 use Rattle.fields.specs.declared.Place.{Place}
-use Rattle.section.specs.declared.Verdict.TheVariants.{Accepted}
+use Rattle.std.specs.Prelude.{Ok}
 use Rattle.section.specs.Accept.{accept_of}
 use Rattle.fields.specs.Fields.{plan, held, source, Plan, advance}
 use Rattle.layout.specs.Layout.{header_widths, left, plan_of}
 use Rattle.layout.proofs.Follows.{trace_widths, length_widths, total_size, Tells}
 use Rattle.layout.proofs.Planned.{Told, start}
 use Rattle.layout.proofs.Shape.{Thin}
-use Rattle.sheet_reading.specs.SheetOf.{sheet_of}
+use Rattle.sheet_reading.specs.SheetOf.{sheet_of, Laid}
 use Rattle.sheet_reading.proofs.Trace.{Whole, whole, after, first, last, body, sheet_numbers, first_spans, last_spans, first_thin, last_thin, body_spans, body_thin, body_size, last_size, sheet_length, body_length}
 
 -- ---- lists
@@ -164,14 +166,8 @@ module _ (s : List ℕ) (w : Whole s) where
 
 -- ---- what the code's plan of an accepted section is
 
-pub record Laid (s m : List ℕ) (p : Place) (ws : List ℕ) : Type 0 where
-  pub number : p.number ≡ length (sheet_of s)
-  pub enough : 11 ≤ p.number
-  pub inside : p.number ≤ length m
-  pub reads : sheet_of s ≡ read_all s 0 (take 4 ws) ++ read_all s 24 (take (p.number - 4) (drop 4 ws))
-
-pub laid_out : (s m : List ℕ) {p : Place} {ws : List ℕ} → accept_of s ≡ Accepted → 8 * length s ≤ length m → length m ≤ 32768
-    → plan p ws ≡ plan_of s [] m → Laid s m p ws
+pub laid_out : (s m : List ℕ) {p : Place} {ws : List ℕ} → accept_of s ≡ Ok tt → 8 * length s ≤ length m → length m ≤ 32768
+    → plan p ws ≡ plan_of s [] m → Laid s m p.number ws
 laid_out s m {p} {ws} a long short e =
     let w : Whole s = whole s a in
     let room : 11 + length (body s w) ≤ length m = omega (arith, long, body_length s w) in
@@ -195,16 +191,13 @@ length_read s k [] = refl
 length_read s k (w ∷ ws) = ap suc (length_read s (k + w) ws)
 
 -- the fields before section_length and those after it, put into the same places, are the sheet in front of the memory
-pub sheet_put : (s m : List ℕ) {p : Place} {ws : List ℕ} (out : List ℕ) → 4 ≤ length ws → Laid s m p ws → p.number ≤ length out
-    → sets (sets out 0 (read_all s 0 (take 4 ws))) 4 (read_all s 24 (take (p.number - 4) (drop 4 ws))) ≡ sheet_of s ++ drop (length (sheet_of s)) out
-sheet_put s m {p} {ws} out enough l room =
+pub sheet_put : (s m : List ℕ) {n : ℕ} {ws : List ℕ} (out : List ℕ) → 4 ≤ length ws → Laid s m n ws
+    → put_mid 4 (n - 4) (read_all s 0 (take 4 ws) ++ drop 4 out) (read_all s 24 (take (n - 4) (drop 4 ws))) ≡ sheet_of s ++ drop (length (sheet_of s)) out
+sheet_put s m {n} {ws} out enough l =
     let a : List ℕ = read_all s 0 (take 4 ws) in
-    let b : List ℕ = read_all s 24 (take (p.number - 4) (drop 4 ws)) in
+    let b : List ℕ = read_all s 24 (take (n - 4) (drop 4 ws)) in
     let four : length a ≡ 4 = length_read s 0 (take 4 ws) ∙ length-take-le 4 ws enough in
-    let place : 0 + length a ≡ 4 = omega (arith, four) in
-    let all : length (a ++ b) ≡ length (sheet_of s) = ap length (sym l.reads) in
-    let start : 0 + length (a ++ b) ≡ length (sheet_of s) = omega (arith, all) in
-    ap (λ (k : ℕ). sets (sets out 0 a) k b) (sym place)
-    ∙ sym (sets_append out 0 a b)
-    ∙ sets-eq (a ++ b) out 0 (omega (arith, all, l.number))
-    ∙ ap₂ (λ (l : List ℕ) (k : ℕ). l ++ drop k out) (sym l.reads) start
+    ap₂ (λ (u v : List ℕ). u ++ (b ++ drop (n - 4) v)) (take_at a (drop 4 out) 4 four) (drop_at a (drop 4 out) 4 four)
+    ∙ ap (λ (v : List ℕ). a ++ (b ++ v)) (Post-is 4 n out (omega (arith, l.enough)))
+    ∙ sym (append_assoc a b (drop n out))
+    ∙ ap₂ (λ (x : List ℕ) (k : ℕ). x ++ drop k out) (sym l.reads) l.number

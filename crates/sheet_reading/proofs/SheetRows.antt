@@ -7,24 +7,22 @@ use Prim.Native.Nat.{ℕ, zero, suc, ◌≤◌, ◌<◌}
 use native.Mathlib.Omega.{arith}
 use lib.ListN.{length, drop}
 use lib.Dec.{ltb}
+use Rattle.std.specs.Prelude.{Ok, Err}
 use borrow.Author.Tests.{lt-ltb, le-ltb}
 use Rattle.units.specs.declared.refusals.Refusal.{Refusal}
 use Rattle.units.specs.declared.refusals.Refusal.TheVariants.{Room}
-use Rattle.units.specs.declared.refusals.Written.TheVariants.{Count, Refused}
 use Rattle.units.specs.Answers.{answer, memory}
-use Rattle.section.specs.declared.Verdict.{Verdict}
-use Rattle.section.specs.declared.Verdict.TheVariants.{Accepted}
 use Rattle.section.specs.Accept.{accept_row, verdict, accept_of}
 use Rattle.section.proofs.Accepted.{accepted_row}
 use Rattle.units.specs.Refusals.{or_else}
 use Rattle.sheet_reading.specs.SheetOf.{sheet_of, sheet_row, to_sheet, to_sheet_into}
 
 -- the verdict that refuses is that of a row
-refused_row : (out : List ℕ) (r : Refusal) (row b n : ℕ) (l : List ℕ) → verdict row ≡ Verdict.Refused r
-    → (Refused r ≡ answer (or_else row b) n) × (out ≡ memory (or_else row b) l out)
+refused_row : (out : List ℕ) (r : Refusal) (row b n : ℕ) (l : List ℕ) → verdict row ≡ Err r
+    → (Err r ≡ answer (or_else row b) n) × (out ≡ memory (or_else row b) l out)
 unfolding verdict
 refused_row out r zero b n l e = let z : ◌≡◌ {A = ℕ} 0 1 = cc in absurd (omega arith)
-refused_row out r (suc row) b n l e = (ap Refused cc, refl)
+refused_row out r (suc row) b n l e = (ap Err cc, refl)
 
 module _ (s out : List ℕ) where
   -- the answer for a row
@@ -34,18 +32,18 @@ module _ (s out : List ℕ) where
   to_sheet_lem row e = (ap (λ (n : ℕ). answer n (length (sheet_of s))) (sym e), ap (λ (n : ℕ). memory n (sheet_of s) out) (sym e))
 
   -- a refused section
-  pub not_accepted : (r : Refusal) → accept_of s ≡ Verdict.Refused r → (Refused r ≡ to_sheet s out) × (out ≡ to_sheet_into s out)
+  pub not_accepted : (r : Refusal) → accept_of s ≡ Err r → (Err r ≡ to_sheet s out) × (out ≡ to_sheet_into s out)
   unfolding to_sheet to_sheet_into sheet_row accept_of
   not_accepted r e = refused_row out r (accept_row s) _ (length (sheet_of s)) (sheet_of s) e
 
   -- an accepted one, with too little room and with enough
-  room_row : accept_of s ≡ Accepted → (b : Bool) → ltb (length out) (length (sheet_of s)) ≡ b → sheet_row s (length out) ≡ cond b 11 0
+  room_row : accept_of s ≡ Ok tt → (b : Bool) → ltb (length out) (length (sheet_of s)) ≡ b → sheet_row s (length out) ≡ cond b 11 0
   unfolding sheet_row
   room_row a b e = ap₂ (λ (row : ℕ) (t : Bool). or_else row (cond t 11 0)) (accepted_row s a) e
 
-  pub no_room : accept_of s ≡ Accepted → length out < length (sheet_of s) → (Refused Room ≡ to_sheet s out) × (out ≡ to_sheet_into s out)
+  pub no_room : accept_of s ≡ Ok tt → length out < length (sheet_of s) → (Err Room ≡ to_sheet s out) × (out ≡ to_sheet_into s out)
   no_room a h = to_sheet_lem 11 (room_row a true (lt-ltb _ _ h))
 
-  pub sheet_written : accept_of s ≡ Accepted → length (sheet_of s) ≤ length out
-      → (Count (length (sheet_of s)) ≡ to_sheet s out) × (sheet_of s ++ drop (length (sheet_of s)) out ≡ to_sheet_into s out)
+  pub sheet_written : accept_of s ≡ Ok tt → length (sheet_of s) ≤ length out
+      → (Ok (length (sheet_of s)) ≡ to_sheet s out) × (sheet_of s ++ drop (length (sheet_of s)) out ≡ to_sheet_into s out)
   sheet_written a h = to_sheet_lem 0 (room_row a false (le-ltb _ _ h))

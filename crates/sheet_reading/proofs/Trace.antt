@@ -15,7 +15,7 @@ use Rattle.grammar.specs.Traces.{Trace, rows_of, size, numbers, Spans, trace_of}
 use Rattle.grammar.proofs.Ends.{covers, trace_spans, ends_within}
 use Rattle.layout.proofs.Shape.{Thin, thin_length, section_thin}
 use Rattle.layout.proofs.Planned.{Body, body_of}
-use Rattle.section.specs.declared.Verdict.TheVariants.{Accepted}
+use Rattle.std.specs.Prelude.{Ok}
 use Rattle.section.specs.Accept.{accept_of}
 use Rattle.section.proofs.Accepted.{Allowed, accepted, has_trace}
 use Rattle.sheet_reading.specs.SheetOf.{section_trace, sheet_of, unsized}
@@ -34,7 +34,7 @@ pub record Whole (s : List ℕ) : Type 0 where
   pub thin : Thin (section_trace s)
   pub covered : size (section_trace s) ≡ 8 * (length s - 4)
 
-module _ (s : List ℕ) (e : accept_of s ≡ Accepted) where
+module _ (s : List ℕ) (e : accept_of s ≡ Ok tt) where
   of_reading : (j : ℕ) (t : Trace) → read splice_info_section [] (bit s) (8 * (length s - 4)) 0 ≡ reached j t → Whole s
   unfolding section_trace trace_of
   of_reading j t q =

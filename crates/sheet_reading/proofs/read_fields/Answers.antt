@@ -1,52 +1,35 @@
 -- `sheet_reading::read_fields` meets its contract. The loop's invariant: putting the fields that are left gives what putting all of them gives.
 -- Assumes nothing.
-use mathlib.Core.Path.{◌≡◌, refl, sym, ap, ap₂, ◌∙◌}
-use mathlib.Core.List.{List, ◌∷◌}
-use Prim.Native.Nat.{ℕ, suc, ◌+◌}
-use native.Mathlib.Omega.{arith}
-use lib.ListN.{get_or, set, length-set}
-use lib.Seq.{sets}
-use Rattle.bits.specs.Bits.{read_all}
-use Rattle.sheet_reading.proofs.Spans.{span, span_next, span_none}
+use Rattle.std.proofs.Common.{◌≡◌, ◌+◌, ◌<◌, ◌≤◌, ℕ, List, length, get_or, take, drop, set, ap, ◌∙◌, arith, ◌∷◌, [], ◌++◌, drop-cons, add-one, append_assoc, length-set}
+use Rattle.std.proofs.lemmas.List.{take_more_set, append-nil}
+use Rattle.std.proofs.Math.ListN.{drop_of_length-le}
+use lib.Seq.{take_all}
+use Rattle.bits.specs.Bits.{field_of, read_all}
 use Rattle.sheet_reading.proofs.read_fields.Goals as goal
 
-pub loop-i-init : goal.loop-i-init
-loop-i-init c = (omega arith, omega arith, refl, omega arith, refl)
+module _ (s ws out : List ℕ) (place i : ℕ) where
+  -- this field, put after those before it, and those after it
+  read_next : {w v : ℕ} → i < length ws → i < length out → w ≡ get_or ws i 0 → v ≡ field_of s place w
+      → take (i + 1) (set out i v) ++ read_all s (place + w) (drop (i + 1) ws) ≡ take i out ++ read_all s place (drop i ws)
+  unfolding read_all
+  read_next {w} {v} h k a e =
+      ap (λ (l : List ℕ). l ++ read_all s (place + w) (drop (i + 1) ws)) (take_more_set out i v k)
+      ∙ append_assoc (take i out) (v ∷ []) (read_all s (place + w) (drop (i + 1) ws))
+      ∙ rw (e, add-one, drop-cons ws i 0 h, ← a)
 
-pub overflow_cast-width : goal.overflow_cast-width
-overflow_cast-width c = omega (arith, c.shared_slice_known-in-loop-i-1.given c.loop-i.i)
-
-pub overflow_add-place : goal.overflow_add-place
-overflow_add-place c = omega (arith, c.shared_slice_known-in-loop-i-1.given c.loop-i.i)
+  -- nothing is left
+  read_end : length ws ≤ i → length out ≤ i → out ≡ take i out ++ read_all s place (drop i ws)
+  unfolding read_all
+  read_end h k = rw (drop_of_length-le ws h, append-nil, take_all i out k)
 
 pub loop-i-preserved : goal.loop-i-preserved
-unfolding read_all
-loop-i-preserved c =
-    let read = c.read in
-    let loop = c.loop-i in
-    let a = c.args in
-    let w : ℕ = get_or a.widths.now loop.i 0 in
-    let rest : List ℕ = read_all a.section.now (loop.place + w) (span (loop.i + 1) a.to a.widths.now) in
-    let next : span loop.i a.to a.widths.now ≡ w ∷ span (loop.i + 1) a.to a.widths.now =
-    span_next loop.i a.to a.widths.now (omega arith) (omega arith) in
-    let one : loop.i + 1 ≡ suc loop.i = omega arith in (
-      omega arith,
-      omega arith,
-      length-set loop.out loop.i read.result ∙ loop.invariant.2,
-      omega (arith, c.shared_slice_known-in-loop-i-1.given loop.i),
-      ap₂ (λ (v k : ℕ). sets (set loop.out loop.i v) k rest) read.ensures one
-          ∙ ap (λ (ws : List ℕ). sets loop.out loop.i (read_all a.section.now loop.place ws)) (sym next)
-          ∙ loop.invariant.4,
-    )
-
-pub shape_of-out : goal.shape_of-out
-shape_of-out c = c.loop-i.invariant.2
+loop-i-preserved c = (
+  omega (arith, c.type_inv.widths c.loop-i.i),
+  length-set c.loop-i.out c.loop-i.i c.read.result ∙ c.loop-i.invariant.1,
+  read_next c.args.section.now c.args.widths.now c.loop-i.out c.loop-i.place c.loop-i.i c.loop-i-test.true (omega arith) c.from-width.ensures c.read.ensures
+      ∙ c.loop-i.invariant.2,
+)
 
 pub returns : goal.returns
-unfolding read_all
 returns c =
-    let loop = c.loop-i in
-    let a = c.args in
-    ap (λ (ws : List ℕ). sets loop.out loop.i (read_all a.section.now loop.place ws))
-    (sym (span_none loop.i a.to a.widths.now (omega arith)))
-    ∙ loop.invariant.4
+    read_end c.args.section.now c.args.widths.now c.loop-i.out c.loop-i.place c.loop-i.i (omega arith) (omega arith) ∙ c.loop-i.invariant.2
