@@ -1,4 +1,5 @@
 pub mod Run
+pub mod Ending
 pub mod Places
 pub mod Traces
 pub mod Induction

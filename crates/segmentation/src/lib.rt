@@ -1,13 +1,14 @@
 // The segmentation descriptor (Table 20): where it ends, and which types may carry sub-segments.
 #![tactic(auto)]
 
-ghost use Rattle.std.specs.Prelude.{◌≡◌, ◌*◌, ◌≤◌, length};
-ghost use Rattle.bits.specs.Bits.{bit};
+ghost use Rattle.std.specs.Prelude.{◌≡◌};
 ghost use Rattle.grammar.specs.Meaning.{Env, value_of, is_among};
 ghost use Rattle.grammar.specs.Tables.{segmentation_components, sub_segmented, segmentation_end, segmentation_descriptor};
 ghost use Rattle.grammar.specs.Ended.{outcome};
-ghost use Rattle.grammar.proofs.Run.{Runs};
+ghost use Rattle.grammar.proofs.Ending.{Ends};
 ghost use Rattle.segmentation.specs.Segmentation.{segmentation_end_at};
+
+use grammar::Part;
 
 // After the identifier: where the descriptor ends whose part stands from `at` up to `end`.
 pub fn segmentation_descriptor(s: &[u8], at: usize, end: usize) -> Option<usize>
@@ -19,14 +20,14 @@ pub fn segmentation_descriptor(s: &[u8], at: usize, end: usize) -> Option<usize>
     if s.len() < end {
         return None;
     }
-    descriptor(s, at, end)
+    descriptor(Part { s, at, end })
 }
 
 // The same where the part lies within the bytes.
-fn descriptor(s: &[u8], at: usize, end: usize) -> Option<usize>
-    requires { (at ≤ end) × (end ≤ length s.now) }
-    ensures { (env : Env) → Runs segmentation_descriptor env (bit s.now) (8 * end) (8 * at) (outcome result) }
+fn descriptor(part: Part) -> Option<usize>
+    ensures { (env : Env) → Ends segmentation_descriptor env part.entry result }
 {
+    let Part { s, at, end } = part;
     if end - at < 5 {
         return None;
     }
@@ -40,26 +41,21 @@ fn descriptor(s: &[u8], at: usize, end: usize) -> Option<usize>
     let flags = s[at + 5];
     let program_segmentation_flag = flags / 128;
     let segmentation_duration_flag = flags / 64 % 2;
-    let n = segmentation_components(s, at + 6, end, program_segmentation_flag)?;
+    let n = segmentation_components(Part { s, at: at + 6, end }, program_segmentation_flag)?;
     if segmentation_duration_flag == 0 {
-        return segmentation_end(s, n, end);
+        return segmentation_end(Part { s, at: n, end });
     }
     if end - n < 5 {
         return None;
     }
-    segmentation_end(s, n + 5, end)
+    segmentation_end(Part { s, at: n + 5, end })
 }
 
 // Table 20, the components.
-fn segmentation_components(
-    s: &[u8],
-    at: usize,
-    end: usize,
-    program_segmentation_flag: u8,
-) -> Option<usize>
-    requires { (at ≤ end) × (end ≤ length s.now) }
-    ensures { (env : Env) → value_of env "program_segmentation_flag" ≡ program_segmentation_flag → Runs segmentation_components env (bit s.now) (8 * end) (8 * at) (outcome result) }
+fn segmentation_components(part: Part, program_segmentation_flag: u8) -> Option<usize>
+    ensures { (env : Env) → value_of env "program_segmentation_flag" ≡ program_segmentation_flag → Ends segmentation_components env part.entry result }
 {
+    let Part { s, at, end } = part;
     if program_segmentation_flag != 0 {
         return Some(at);
     }
@@ -74,10 +70,10 @@ fn segmentation_components(
 }
 
 // Table 20, from the UPID on.
-fn segmentation_end(s: &[u8], at: usize, end: usize) -> Option<usize>
-    requires { (at ≤ end) × (end ≤ length s.now) }
-    ensures { (env : Env) → Runs segmentation_end env (bit s.now) (8 * end) (8 * at) (outcome result) }
+fn segmentation_end(part: Part) -> Option<usize>
+    ensures { (env : Env) → Ends segmentation_end env part.entry result }
 {
+    let Part { s, at, end } = part;
     if end - at < 2 {
         return None;
     }

@@ -20,15 +20,15 @@ unfolding segmentation_components
 returns-then-end-at-lt1 c env e = yes_last (eq-eqb _ 0 (e ∙ c.if-program_segmentation_flag-ne0.false)) (short (omega arith))
 
 pub overflow_cast-component_count : goal.overflow_cast-component_count
-overflow_cast-component_count c = omega (arith, c.shared_slice_known-1.given c.args.at)
+overflow_cast-component_count c = omega (arith, c.shared_slice_known-1.given c.args.part.at)
 
 pub overflow_mul-component_count : goal.overflow_mul-component_count
-overflow_mul-component_count c = omega (arith, c.shared_slice_known-1.given c.args.at)
+overflow_mul-component_count c = omega (arith, c.shared_slice_known-1.given c.args.part.at)
 
 pub returns-then-end-at : goal.returns-then-end-at
 unfolding segmentation_components
 returns-then-end-at c env e =
-    let a = c.args in
+    let a = c.args.part in
     let byte : get_or a.s.now a.at 0 < 256 = omega (arith, c.shared_slice_known-1.given a.at) in
     yes_last (eq-eqb _ 0 (e ∙ c.if-program_segmentation_flag-ne0.false))
     (pass (omega arith) (not_all_there (get_or a.s.now a.at 0) (octet a.s.now a.at (8 * a.at) byte refl) (omega arith) (omega arith)))
@@ -36,7 +36,7 @@ returns-then-end-at c env e =
 pub returns : goal.returns
 unfolding segmentation_components
 returns c env e =
-    let a = c.args in
+    let a = c.args.part in
     let byte : get_or a.s.now a.at 0 < 256 = omega (arith, c.shared_slice_known-1.given a.at) in
     yes_last (eq-eqb _ 0 (e ∙ c.if-program_segmentation_flag-ne0.false))
     (pass (omega arith) (all_there (get_or a.s.now a.at 0) (octet a.s.now a.at (8 * a.at) byte refl) (omega arith) (finished (omega arith))))
