@@ -2,7 +2,7 @@
 // from.
 #![tactic(auto)]
 
-ghost use Rattle.std.specs.Prelude.{◌≡◌, ◌≤◌, length};
+ghost use Rattle.std.specs.Prelude.{◌≡◌, ◌+◌, ◌≤◌, ◌<◌, length, IfSome, IfNone};
 
 // The bytes of the section from one byte up to another, which are there.
 #[derive(Clone, Copy)]
@@ -15,11 +15,10 @@ pub struct Part<'a> {
 }
 
 impl<'a> Part<'a> {
-    ghost use Rattle.grammar.specs.Ended.{after};
-
     // The byte after the first n of them, if there are so many.
     pub fn after(self, n: usize) -> Option<usize>
-        ensures { result ≡ after self.entry.at self.entry.end n }
+        ensures there { IfSome result (λ place. (place ≡ self.entry.at + n) × (place ≤ self.entry.end)) }
+        ensures too_few { IfNone result (self.entry.end < self.entry.at + n) }
     {
         if self.end - self.at < n {
             return None;

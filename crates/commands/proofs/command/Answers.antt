@@ -43,7 +43,7 @@ pub returns-then-sized : goal.returns-then-sized
 unfolding table_of
 returns-then-sized c env =
     let a = c.args in
-    of_type (cond a.sized private_command stop) (cond a.sized (bytes "command_byte") stop) a.splice_command_type 0xFF c.in-255.is (rw c.if-sized.true (c.private_command.ensures env (bit a.s.now)))
+    of_type (cond a.sized private_command stop) (cond a.sized (bytes "command_byte") stop) a.splice_command_type 0xFF c.in-255.is (rw c.if-sized.true (c.private_command.ensures env))
 
 pub returns-else-sized : goal.returns-else-sized
 unfolding table_of
@@ -56,10 +56,10 @@ unfolding table_of
 returns-then-sized-2 c env =
     let a = c.args in
     let no = c.in_default.in_default-own.rest in
-    let all : 8 * a.at + 8 * (a.end - a.at) ≡ 8 * a.end = omega arith in
+    let all : 8 * a.part.at + 8 * (a.part.end - a.part.at) ≡ 8 * a.part.end = omega arith in
     otherwise (cond a.sized private_command stop) (cond a.sized (bytes "command_byte") stop) a.splice_command_type
     (λ e. no.0.0.0.0.1 (inl e)) no.0.0.0.1 no.0.0.1 no.0.1 (λ e. no.0.0.0.0.1 (inr e)) no.1
-    (rw c.if-sized-2.true (filled_last (swept_bytes "command_byte" env (bit a.s.now) (8 * a.end) (a.end - a.at) (8 * a.at) all)))
+    (rw c.if-sized-2.true (filled_last (swept_bytes "command_byte" env (bit a.part.s.now) (8 * a.part.end) (a.part.end - a.part.at) (8 * a.part.at) all)))
 
 pub returns-else-sized-2 : goal.returns-else-sized-2
 unfolding table_of

@@ -15,7 +15,7 @@ returns-in_err-next c env e =
     let a = c.args in
     let l = c.loop in
     rw c.from_residual.ensures
-    (one_broken a.component_count l.counter (run insert_component env (bit a.s.now) (8 * a.end)) (8 * l.next) (l.invariant.1 env e) c.loop-test.true
+    (one_broken a.component_count l.counter (run insert_component env (bit a.part.s.now) (8 * a.part.end)) (8 * l.next) (l.invariant.1 env e) c.loop-test.true
     (c.in_err-next.ensures env e).runs)
 
 pub loop-preserved : goal.loop-preserved
@@ -24,6 +24,6 @@ loop-preserved c =
     let l = c.loop in
     let next = c.in_ok-next.next in
     let one = c.in_ok-next.ensures in (
-      (byte_within insert_component (("splice_immediate_flag", a.splice_immediate_flag) ∷ []) (bit a.s.now) a.end l.next next (one _ refl).runs l.invariant.0).1,
-      λ env e. one_more a.component_count l.counter (run insert_component env (bit a.s.now) (8 * a.end)) (8 * l.next) (l.invariant.1 env e) c.loop-test.true (one env e).runs,
+      (byte_within insert_component (("splice_immediate_flag", a.splice_immediate_flag) ∷ []) (bit a.part.s.now) a.part.end l.next next (one _ refl).runs l.invariant.0).1,
+      λ env e. one_more a.component_count l.counter (run insert_component env (bit a.part.s.now) (8 * a.part.end)) (8 * l.next) (l.invariant.1 env e) c.loop-test.true (one env e).runs,
     )

@@ -14,7 +14,7 @@ returns-in_err-next c env =
     let a = c.args in
     let l = c.loop in
     rw c.from_residual.ensures
-    (one_broken a.count l.counter (run schedule_event env (bit a.s.now) (8 * a.end)) (8 * l.next) (l.invariant.1 env) c.loop-test.true
+    (one_broken a.count l.counter (run schedule_event env (bit a.part.s.now) (8 * a.part.end)) (8 * l.next) (l.invariant.1 env) c.loop-test.true
     (c.in_err-next.ensures env).runs)
 
 pub loop-preserved : goal.loop-preserved
@@ -23,6 +23,6 @@ loop-preserved c =
     let l = c.loop in
     let next = c.in_ok-next.next in
     let one = c.in_ok-next.ensures in (
-      (byte_within schedule_event [] (bit a.s.now) a.end l.next next (one []).runs l.invariant.0).1,
-      λ env. one_more a.count l.counter (run schedule_event env (bit a.s.now) (8 * a.end)) (8 * l.next) (l.invariant.1 env) c.loop-test.true (one env).runs,
+      (byte_within schedule_event [] (bit a.part.s.now) a.part.end l.next next (one []).runs l.invariant.0).1,
+      λ env. one_more a.count l.counter (run schedule_event env (bit a.part.s.now) (8 * a.part.end)) (8 * l.next) (l.invariant.1 env) c.loop-test.true (one env).runs,
     )
