@@ -1,15 +1,15 @@
 // The walk over the descriptor loop of a section: a cursor by value, and a function for each table of the standard but the
-// segmentation descriptor's, over the bytes from `at` up to `end`.
+// segmentation descriptor's, over the part of the section that the descriptor has.
 #![tactic(auto)]
 
-ghost use Rattle.std.specs.Prelude.{◌≡◌, ℕ, ◌+◌, ◌*◌, ◌≤◌, length};
+ghost use Rattle.std.specs.Prelude.{◌≡◌, ◌+◌, ◌*◌, ◌≤◌, length};
 ghost use Rattle.bits.specs.Bits.{bit, num};
 ghost use Rattle.grammar.specs.Meaning.{Env};
-ghost use Rattle.grammar.specs.Tables.{avail_descriptor, dtmf_descriptor, time_descriptor, audio_descriptor};
-ghost use Rattle.grammar.specs.Ended.{outcome};
-ghost use Rattle.grammar.proofs.Run.{Runs};
+ghost use Rattle.grammar.specs.Tables.{dtmf_descriptor, audio_descriptor};
+ghost use Rattle.grammar.proofs.Ending.{Ends};
 ghost use Rattle.descriptors.specs.Walk.{kind_of, table_of, step_of};
 
+use grammar::Part;
 pub use segmentation::is_sub_segmented;
 use units::Refusal;
 
@@ -59,7 +59,15 @@ impl Cursor {
         }
         let next = at + 2 + descriptor_length;
         let kind = kind_at(s, at);
-        let n = descriptor(s, at + 6, next, kind).ok_or(Refusal::Descriptor)?;
+        let n = descriptor(
+            Part {
+                s,
+                at: at + 6,
+                end: next,
+            },
+            kind,
+        )
+        .ok_or(Refusal::Descriptor)?;
         if n != next {
             return Err(Refusal::Descriptor);
         }
@@ -106,68 +114,35 @@ fn identifier(s: &[u8], at: usize) -> u64
 }
 
 // A descriptor of that kind, after the identifier.
-fn descriptor(s: &[u8], at: usize, end: usize, kind: Kind) -> Option<usize>
-    requires { (at ≤ end) × (end ≤ length s.now) }
-    ensures { (env : Env) → Runs (table_of kind) env (bit s.now) (8 * end) (8 * at) (outcome result) }
+fn descriptor(part: Part, kind: Kind) -> Option<usize>
+    ensures { (env : Env) → Ends (table_of kind) env part.entry result }
 {
     match kind {
-        Kind::Avail => avail_descriptor(at, end),
-        Kind::Dtmf => dtmf_descriptor(s, at, end),
-        Kind::Segmentation => segmentation::segmentation_descriptor(s, at, end),
-        Kind::Time => time_descriptor(at, end),
-        Kind::Audio => audio_descriptor(s, at, end),
-        Kind::Unknown => Some(end),
+        // Table 18: provider_avail_id
+        Kind::Avail => part.after(4),
+        Kind::Dtmf => dtmf_descriptor(part),
+        Kind::Segmentation => segmentation::segmentation_descriptor(part.s, part.at, part.end),
+        // Table 27: TAI_seconds, TAI_ns and UTC_offset
+        Kind::Time => part.after(12),
+        Kind::Audio => audio_descriptor(part),
+        Kind::Unknown => Some(part.end),
     }
-}
-
-// Table 18, after the identifier.
-fn avail_descriptor(at: usize, end: usize) -> Option<usize>
-    requires { at ≤ end }
-    ensures { (env : Env) (f : ℕ → ℕ) → Runs avail_descriptor env f (8 * end) (8 * at) (outcome result) }
-{
-    if end - at < 4 {
-        return None;
-    }
-    Some(at + 4)
 }
 
 // Table 19, after the identifier.
-fn dtmf_descriptor(s: &[u8], at: usize, end: usize) -> Option<usize>
-    requires { (at ≤ end) × (end ≤ length s.now) }
-    ensures { (env : Env) → Runs dtmf_descriptor env (bit s.now) (8 * end) (8 * at) (outcome result) }
+fn dtmf_descriptor(part: Part) -> Option<usize>
+    ensures { (env : Env) → Ends dtmf_descriptor env part.entry result }
 {
-    if end - at < 2 {
-        return None;
-    }
-    let dtmf_count = (s[at + 1] / 32) as usize;
-    if end - at - 2 < dtmf_count {
-        return None;
-    }
-    Some(at + 2 + dtmf_count)
-}
-
-// Table 27, after the identifier.
-fn time_descriptor(at: usize, end: usize) -> Option<usize>
-    requires { at ≤ end }
-    ensures { (env : Env) (f : ℕ → ℕ) → Runs time_descriptor env f (8 * end) (8 * at) (outcome result) }
-{
-    if end - at < 12 {
-        return None;
-    }
-    Some(at + 12)
+    part.after(2)?;
+    let dtmf_count = (part.s[part.at + 1] / 32) as usize;
+    part.after(2 + dtmf_count)
 }
 
 // Table 28, after the identifier.
-fn audio_descriptor(s: &[u8], at: usize, end: usize) -> Option<usize>
-    requires { (at ≤ end) × (end ≤ length s.now) }
-    ensures { (env : Env) → Runs audio_descriptor env (bit s.now) (8 * end) (8 * at) (outcome result) }
+fn audio_descriptor(part: Part) -> Option<usize>
+    ensures { (env : Env) → Ends audio_descriptor env part.entry result }
 {
-    if end - at < 1 {
-        return None;
-    }
-    let audio_count = (s[at] / 16) as usize;
-    if end - at - 1 < 5 * audio_count {
-        return None;
-    }
-    Some(at + 1 + 5 * audio_count)
+    part.after(1)?;
+    let audio_count = (part.s[part.at] / 16) as usize;
+    part.after(1 + 5 * audio_count)
 }

@@ -1,36 +1,26 @@
 -- `descriptors::audio_descriptor` meets its contract: a byte, and five bytes for each component that its upper four bits count.
 -- Assumes nothing.
 use mathlib.Core.Path.{refl}
-use Prim.Native.Nat.{◌*◌, ◌/◌, ◌<◌}
+use Prim.Native.Nat.{◌+◌, ◌*◌, ◌/◌, ◌<◌}
 use native.Mathlib.Omega.{arith}
 use lib.ListN.{get_or}
+use Rattle.std.proofs.Common.{rules}
 use Rattle.grammar.specs.Tables.{audio_descriptor}
-use Rattle.grammar.proofs.Run.{pass, short, finished, all_there, not_all_there}
+use Rattle.grammar.proofs.Ending.{last_repeat}
+use Rattle.grammar.proofs.Run.{pass, short}
 use Rattle.grammar.proofs.Places.{upper}
 use Rattle.descriptors.proofs.audio_descriptor.Goals as goal
 
-pub returns-then-end-at-lt1 : goal.returns-then-end-at-lt1
+pub returns-in_err-after : goal.returns-in_err-after
 unfolding audio_descriptor
-returns-then-end-at-lt1 c env = short (omega arith)
-
-pub overflow_cast-audio_count : goal.overflow_cast-audio_count
-overflow_cast-audio_count c = omega (arith, c.shared_slice_known-1.given c.args.at)
-
-pub overflow_mul-audio_count : goal.overflow_mul-audio_count
-overflow_mul-audio_count c = omega (arith, c.shared_slice_known-1.given c.args.at)
-
-pub returns-then-end-at : goal.returns-then-end-at
-unfolding audio_descriptor
-returns-then-end-at c env =
-    let a = c.args in
-    let byte : get_or a.s.now a.at 0 < 256 = omega (arith, c.shared_slice_known-1.given a.at) in
-    pass (omega arith)
-    (not_all_there (get_or a.s.now a.at 0 / 16) (upper a.s.now a.at (8 * a.at) 4 4 byte refl refl) (omega arith) (omega arith))
+returns-in_err-after c env = rw c.from_residual.ensures (short (omega (arith, c.in_err-after.ensures.too_few)))
 
 pub returns : goal.returns
 unfolding audio_descriptor
 returns c env =
-    let a = c.args in
-    let byte : get_or a.s.now a.at 0 < 256 = omega (arith, c.shared_slice_known-1.given a.at) in
-    pass (omega arith)
-    (all_there (get_or a.s.now a.at 0 / 16) (upper a.s.now a.at (8 * a.at) 4 4 byte refl refl) (omega arith) (finished (omega arith)))
+    let a = c.args.part in
+    let count = c.in_ok-after.ensures.there in
+    let byte : get_or a.s.now a.at 0 < 256 = search rules in
+    pass (omega (arith, count.0, count.1))
+    (last_repeat a.at a.end (1 + 5 * (get_or a.s.now a.at 0 / 16)) (get_or a.s.now a.at 0 / 16) c.after-2.result c.after-2.ensures.there c.after-2.ensures.too_few
+    (upper a.s.now a.at (8 * a.at) 4 4 byte refl refl) (omega (arith, count.0, count.1)) (omega arith))

@@ -4,32 +4,23 @@ use mathlib.Core.Path.{refl}
 use Prim.Native.Nat.{◌+◌, ◌*◌, ◌/◌, ◌<◌}
 use native.Mathlib.Omega.{arith}
 use lib.ListN.{get_or}
+use Rattle.std.proofs.Common.{rules}
 use Rattle.grammar.specs.Tables.{dtmf_descriptor}
-use Rattle.grammar.proofs.Run.{pass, short, finished, all_there, not_all_there}
+use Rattle.grammar.proofs.Ending.{last_repeat}
+use Rattle.grammar.proofs.Run.{pass, short}
 use Rattle.grammar.proofs.Places.{upper}
 use Rattle.descriptors.proofs.dtmf_descriptor.Goals as goal
 
-pub returns-then-end-at-lt2 : goal.returns-then-end-at-lt2
+pub returns-in_err-after : goal.returns-in_err-after
 unfolding dtmf_descriptor
-returns-then-end-at-lt2 c env = short (omega arith)
-
-pub overflow_cast-dtmf_count : goal.overflow_cast-dtmf_count
-overflow_cast-dtmf_count c = omega (arith, c.shared_slice_known-1.given (c.args.at + 1))
-
-pub returns-then-end-at : goal.returns-then-end-at
-unfolding dtmf_descriptor
-returns-then-end-at c env =
-    let a = c.args in
-    let byte : get_or a.s.now (a.at + 1) 0 < 256 = omega (arith, c.shared_slice_known-1.given (a.at + 1)) in
-    pass (omega arith)
-    (not_all_there (get_or a.s.now (a.at + 1) 0 / 32) (upper a.s.now (a.at + 1) (8 * a.at + 8) 3 5 byte (omega arith) refl) (omega arith)
-    (omega arith))
+returns-in_err-after c env = rw c.from_residual.ensures (short (omega (arith, c.in_err-after.ensures.too_few)))
 
 pub returns : goal.returns
 unfolding dtmf_descriptor
 returns c env =
-    let a = c.args in
-    let byte : get_or a.s.now (a.at + 1) 0 < 256 = omega (arith, c.shared_slice_known-1.given (a.at + 1)) in
-    pass (omega arith)
-    (all_there (get_or a.s.now (a.at + 1) 0 / 32) (upper a.s.now (a.at + 1) (8 * a.at + 8) 3 5 byte (omega arith) refl) (omega arith)
-    (finished (omega arith)))
+    let a = c.args.part in
+    let count = c.in_ok-after.ensures.there in
+    let byte : get_or a.s.now (a.at + 1) 0 < 256 = search rules in
+    pass (omega (arith, count.0, count.1))
+    (last_repeat a.at a.end (2 + get_or a.s.now (a.at + 1) 0 / 32) (get_or a.s.now (a.at + 1) 0 / 32) c.after-2.result c.after-2.ensures.there c.after-2.ensures.too_few
+    (upper a.s.now (a.at + 1) (8 * a.at + 8) 3 5 byte (omega arith) refl) (omega (arith, count.0, count.1)) (omega arith))
