@@ -8,6 +8,7 @@ use Prim.Native.Nat.{ℕ, ◌≤◌}
 use native.Mathlib.Omega.{arith}
 use lib.ListN.{length}
 use borrow.Author.Tests.{ne_eqb}
+use Rattle.std.specs.Prelude.{Ok}
 use Rattle.bits.specs.Bits.{field_of}
 use Rattle.bits.proofs.Cases.{le_or_lt}
 use Rattle.bits.proofs.Within.{field_there}
@@ -16,12 +17,11 @@ use Rattle.grammar.specs.Names.{look}
 use Rattle.descriptors.specs.declared.Cursor.{Cursor}
 use Rattle.section.specs.Accept.{the}
 use Rattle.section.proofs.Accepted.{accepted}
-use Rattle.opening.specs.declared.Opened.{Opened}
 use Rattle.opening.specs.First.{open_of}
 use Rattle.opening.proofs.Asked.{is_open}
 use Rattle.command_reading.specs.Command.{typed, command_trace}
 
-module _ (s : List ℕ) (c : Cursor) (e : open_of s ≡ Opened.Open c) where
+module _ (s : List ℕ) (c : Cursor) (e : open_of s ≡ Ok c) where
   long : 20 ≤ length s
   long = (accepted s (is_open s c e).allowed).long
 
