@@ -5,35 +5,30 @@
 ghost use Rattle.std.specs.Prelude.{◌≡◌};
 ghost use Rattle.descriptor_questions.specs.Questions as says;
 
-use descriptor_reading::{AudioComponent, DtmfChar, SegmentationComponent};
-use opening::Opened;
+use descriptor_reading::{AudioComponent, SegmentationComponent};
+use units::Refusal;
 
 // Character m of known descriptor n.
-pub fn dtmf_char(section: &[u8], n: usize, m: usize) -> DtmfChar
+pub fn dtmf_char(section: &[u8], n: usize, m: usize) -> Result<u8, Refusal>
     ensures { result ≡ says.dtmf_char section.now n m }
 {
-    match opening::open(section) {
-        Opened::Open(cursor) => descriptor_lists::dtmf_char(section, cursor, n, m),
-        Opened::Refused(refusal) => DtmfChar::Refused(refusal),
-    }
+    descriptor_lists::dtmf_char(section, opening::open(section)?, n, m)
 }
 
 // Component m of known descriptor n, a segmentation descriptor.
-pub fn segmentation_component(section: &[u8], n: usize, m: usize) -> SegmentationComponent
+pub fn segmentation_component(
+    section: &[u8],
+    n: usize,
+    m: usize,
+) -> Result<SegmentationComponent, Refusal>
     ensures { result ≡ says.segmentation_component section.now n m }
 {
-    match opening::open(section) {
-        Opened::Open(cursor) => descriptor_lists::segmentation_component(section, cursor, n, m),
-        Opened::Refused(refusal) => SegmentationComponent::Refused(refusal),
-    }
+    descriptor_lists::segmentation_component(section, opening::open(section)?, n, m)
 }
 
 // Component m of known descriptor n, an audio descriptor.
-pub fn audio_component(section: &[u8], n: usize, m: usize) -> AudioComponent
+pub fn audio_component(section: &[u8], n: usize, m: usize) -> Result<AudioComponent, Refusal>
     ensures { result ≡ says.audio_component section.now n m }
 {
-    match opening::open(section) {
-        Opened::Open(cursor) => descriptor_lists::audio_component(section, cursor, n, m),
-        Opened::Refused(refusal) => AudioComponent::Refused(refusal),
-    }
+    descriptor_lists::audio_component(section, opening::open(section)?, n, m)
 }

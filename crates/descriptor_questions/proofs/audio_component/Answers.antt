@@ -1,16 +1,17 @@
 -- `descriptor_questions::audio_component` meets its contract: an open section is asked, any other is refused.
 -- Assumes nothing.
 use mathlib.Core.Path.{sym, ◌∙◌}
-use Rattle.descriptor_questions.specs.Questions.{audio_component}
+use Rattle.std.proofs.lemmas.Result.{err_from_is_err_and}
 use Rattle.opening.proofs.Asked.{when_open, when_refused}
+use Rattle.descriptor_questions.specs.Questions.{audio_component}
 use Rattle.descriptor_questions.proofs.audio_component.Goals as goal
 
-pub returns-in-Open : goal.returns-in-Open
+pub returns-in_err-open : goal.returns-in_err-open
 unfolding audio_component
-returns-in-Open c =
-    c.audio_component.ensures
-    ∙ sym (when_open _ _ _ (sym c.«open».ensures ∙ c.in-Open.is))
+returns-in_err-open c =
+    let refused = err_from_is_err_and c.from_residual.result c.from_residual.ensures.1 in
+    rw (refused.1, refused.2) (sym (when_refused _ _ _ (sym c.«open».ensures ∙ c.in_err-open.was)))
 
-pub returns-in-Refused : goal.returns-in-Refused
+pub returns : goal.returns
 unfolding audio_component
-returns-in-Refused c = sym (when_refused _ _ _ (sym c.«open».ensures ∙ c.in-Refused.is))
+returns c = c.audio_component.ensures ∙ sym (when_open _ _ _ (sym c.«open».ensures ∙ c.in_ok-open.was))
