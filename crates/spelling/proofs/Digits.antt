@@ -3,7 +3,7 @@
 use mathlib.Core.Path.{◌≡◌, refl, sym, ap, ap₂, ◌∙◌, subst}
 use mathlib.Core.Logic.{⊎_elim}
 use mathlib.Core.List.{List, [], ◌∷◌, ◌++◌, append_assoc}
-use Prim.Native.Nat.{ℕ, zero, suc, ◌+◌, ◌-◌, ◌*◌, ◌/◌, ◌%◌, ◌^◌, ◌≤◌, ◌<◌}
+use Prim.Native.Nat.{max, ℕ, zero, suc, ◌+◌, ◌-◌, ◌*◌, ◌/◌, ◌%◌, ◌^◌, ◌≤◌, ◌<◌}
 use native.Mathlib.Nat.{add-zero, pow-succ', mod-eq_of_lt}
 use native.Mathlib.Numerals.{sub-one}
 use native.Mathlib.Omega.{arith}
@@ -31,29 +31,20 @@ few (suc k) n =
 
 -- ---- how many
 
--- so many digits were counted, and the rest of the number has at most so many more
-pub record Counting (n count rest : ℕ) : Type 0 where
-  pub left : ℕ
-  pub sum : count + left ≡ 20
-  pub small : rest < 10 ^ suc left
-  pub same : length (digits 20 n) + 1 ≡ count + length (digits (suc left) rest)
+ten_pow : (m : ℕ) → 0 < 10 ^ m
+ten_pow zero = omega arith
+ten_pow (suc m) = omega (arith, pow-succ' 10 m, ten_pow m)
 
-pub count_more : (n count rest left : ℕ) → count + left ≡ 20 → rest < 10 ^ suc left
-    → length (digits 20 n) + 1 ≡ count + length (digits (suc left) rest) → 10 ≤ rest → Counting n (count + 1) (rest / 10)
-count_more n count rest zero sum small same h = absurd (omega arith)
-count_more n count rest (suc left) sum small same h =
-    let tenth : 10 ^ suc (suc left) ≡ 10 * 10 ^ suc left = pow-succ' 10 (suc left) in
-    record {
-      left = left;
-      sum = omega arith;
-      small = omega (arith, tenth);
-      same =
-          omega
-          (arith, ap length (more_digits (suc left) rest h), length-append (digits (suc left) (rest / 10)) ((rest % 10 + 48) ∷ []));
-    }
-
-pub counted : {n count rest : ℕ} → Counting n count rest → rest < 10 → count ≡ length (digits 20 n)
-counted {rest = rest} c h = omega (arith, c.same, ap length (one_digit c.left rest h))
+-- a number from 10 ^ m on and below 10 ^ (m + 1) has one digit more than m, and 0 has one as 1 has
+pub how_many : (k m n : ℕ) → m < k → 10 ^ m ≤ max n 1 → n < 10 * 10 ^ m → m + 1 ≡ length (digits k n)
+how_many zero m n h p q = absurd (omega arith)
+how_many (suc k) zero n h p q = sym (ap length (one_digit k n (omega arith)))
+how_many (suc k) (suc m) n h p q =
+    let tenth : 10 ^ suc m ≡ 10 * 10 ^ m = pow-succ' 10 m in
+    let more : 10 ≤ n = omega (arith, tenth, ten_pow m) in
+    let rest : m + 1 ≡ length (digits k (n / 10)) =
+    how_many k m (n / 10) (omega arith) (omega (arith, tenth, ten_pow m)) (omega (arith, tenth)) in
+    omega (arith, ap length (more_digits k n more), length-append (digits k (n / 10)) ((n % 10 + 48) ∷ []), rest)
 
 -- ---- which
 

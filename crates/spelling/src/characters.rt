@@ -46,9 +46,7 @@ fn decimal(n: u64, characters: &mut [u8], at: usize) -> usize
 {
     let count = places(n);
     let mut rest = n;
-    let mut i = count;
-    while 0 < i {
-        i -= 1;
+    for i in (0..count).rev() {
         characters[at + i] = (rest % 10) as u8 + 48;
         rest /= 10;
     }
@@ -59,11 +57,5 @@ fn decimal(n: u64, characters: &mut [u8], at: usize) -> usize
 fn places(n: u64) -> usize
     ensures { result ≡ length (digits 20 n) }
 {
-    let mut count = 1;
-    let mut rest = n;
-    while 10 <= rest {
-        rest /= 10;
-        count += 1;
-    }
-    count
+    n.max(1).ilog10() as usize + 1
 }

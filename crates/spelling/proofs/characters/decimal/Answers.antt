@@ -14,7 +14,6 @@ loop-i-init c =
     let m : List ℕ = a.characters.now in
     let n : ℕ = c.places-count.result in (
       omega (arith, c.places-count.ensures, few 20 a.n),
-      omega arith,
       refl,
       record { done = []; all = sym (append-nil (final n a.n)); list = sym (take-append-drop (a.at + n) m) },
     )
@@ -23,14 +22,13 @@ pub loop-i-preserved : goal.loop-i-preserved
 loop-i-preserved c =
     let loop = c.loop-i in
     let a = c.args in (
-      omega arith,
-      omega arith,
-      length-set loop.characters (a.at + (loop.i - 1)) (loop.rest % 10 + 48) ∙ loop.invariant.2,
-      write_down loop.i (omega arith) (omega arith) loop.invariant.3,
+      loop.invariant.0,
+      length-set loop.characters (a.at + (loop.i - 1)) (loop.rest % 10 + 48) ∙ loop.invariant.1,
+      write_down loop.i (omega arith) (omega arith) loop.invariant.2,
     )
 
 pub shape_of-characters : goal.shape_of-characters
-shape_of-characters c = c.loop-i.invariant.2
+shape_of-characters c = c.loop-i.invariant.1
 
 pub returns : goal.returns
 returns c =
@@ -39,5 +37,5 @@ returns c =
     let a = c.args in
     record {
       place = ap (λ (k : ℕ). a.at + k) places.ensures;
-      list = written (omega arith) places.ensures c.requires loop.invariant.3;
+      list = written (omega arith) places.ensures c.requires loop.invariant.2;
     }

@@ -6,7 +6,4 @@ use Rattle.spelling.proofs.characters.decimal.Given as goal
 
 abbrev pub invariant-loop-i : goal.invariant-loop-i
 invariant-loop-i l =
-    (l.count ≤ 20) × (l.i ≤ l.count) × (length l.characters ≡ length l.initial.characters) × Writing l.initial.characters l.at l.count l.n l.characters l.i l.rest
-
-abbrev pub decreases-loop-i : goal.decreases-loop-i
-decreases-loop-i l = l.i
+    (l.count ≤ 20) × (length l.characters ≡ length l.initial.characters) × Writing l.initial.characters l.at l.count l.n l.characters l.i l.rest
