@@ -12,13 +12,11 @@ use borrow.Author.Tests.{eq-eqb, eqb-true}
 use Rattle.bits.specs.Bits.{read_all}
 use Rattle.bits.proofs.Cases.{is_false, and_left, and_right}
 use Rattle.units.specs.declared.refusals.Refusal.{Refusal}
-use Rattle.fields.specs.declared.Place.{Place}
-use Rattle.section.specs.declared.Verdict.{Verdict}
-use Rattle.section.specs.declared.Verdict.TheVariants.{Accepted, Refused}
+use Rattle.std.specs.Prelude.{Result, Ok, Err, is_ok, is_err}
 use Rattle.section.specs.Accept.{accept_of}
-use Rattle.sheet_reading.specs.SheetOf.{sheet_of}
-use Rattle.sheet_matching.specs.Matching.{is_accepted, same, is_sheet_of}
-use Rattle.sheet_reading.proofs.Plans.{Laid, length_read}
+use Rattle.sheet_reading.specs.SheetOf.{sheet_of, Laid}
+use Rattle.sheet_matching.specs.Matching.{same, is_sheet_of}
+use Rattle.sheet_reading.proofs.Plans.{length_read}
 
 -- ---- the same numbers
 
@@ -48,24 +46,36 @@ same_append (x ∷ a) b (y ∷ c) d e = ap (λ (t : Bool). eqb x y && t) (same_a
 
 -- ---- the tests in turn
 
+pub not_refused : {o v : Result (Unit {0}) Refusal} → o ≡ v → is_err o ≡ false → v ≡ Ok tt
+not_refused {o} {v} e q = sym e ∙ is o q
+  where
+    is : (o : Result (Unit {0}) Refusal) → is_err o ≡ false → o ≡ Ok tt
+    is (Ok u) q = refl
+    is (Err r) q = absurd (false≢true (sym q))
+
 module _ (x s : List ℕ) where
-  pub not_section : (r : Refusal) → accept_of s ≡ Refused r → is_sheet_of x s ≡ false
-  unfolding is_sheet_of is_accepted
-  not_section r e = ap (λ (v : Verdict). is_accepted v && same (sheet_of s) x) e
+  pub not_section : (r : Refusal) → accept_of s ≡ Err r → is_sheet_of x s ≡ false
+  unfolding is_sheet_of
+  not_section r e = ap (λ (v : Result (Unit {0}) Refusal). is_ok v && same (sheet_of s) x) e
 
-  pub of_section : accept_of s ≡ Accepted → is_sheet_of x s ≡ same (sheet_of s) x
-  unfolding is_sheet_of is_accepted
-  of_section e = ap (λ (v : Verdict). is_accepted v && same (sheet_of s) x) e
+  -- by whether acceptance answers an error
+  pub refused_first : (o : Result (Unit {0}) Refusal) → o ≡ accept_of s → is_err o ≡ true → is_sheet_of x s ≡ false
+  refused_first (Ok u) e q = absurd (false≢true q)
+  refused_first (Err r) e q = not_section r (sym e)
 
-  pub other_count : accept_of s ≡ Accepted → (length (sheet_of s) ≡ length x → ⊥) → is_sheet_of x s ≡ false
+  pub of_section : accept_of s ≡ Ok tt → is_sheet_of x s ≡ same (sheet_of s) x
+  unfolding is_sheet_of
+  of_section e = ap (λ (v : Result (Unit {0}) Refusal). is_ok v && same (sheet_of s) x) e
+
+  pub other_count : accept_of s ≡ Ok tt → (length (sheet_of s) ≡ length x → ⊥) → is_sheet_of x s ≡ false
   other_count e h = of_section e ∙ is_false (same (sheet_of s) x) (λ q. h (ap length (same_true (sheet_of s) x q)))
 
-  pub two_parts : (m : List ℕ) {p : Place} {ws : List ℕ} → accept_of s ≡ Accepted → Laid s m p ws → 4 ≤ length ws → p.number ≡ length x
-      → is_sheet_of x s ≡ (same (read_all s 0 (take 4 ws)) (take 4 x) && same (read_all s 24 (take (p.number - 4) (drop 4 ws))) (take (p.number - 4) (drop 4 x)))
-  two_parts m {p} {ws} e l long count =
+  pub two_parts : (m : List ℕ) {n : ℕ} {ws : List ℕ} → accept_of s ≡ Ok tt → Laid s m n ws → 4 ≤ length ws → n ≡ length x
+      → is_sheet_of x s ≡ (same (read_all s 0 (take 4 ws)) (take 4 x) && same (read_all s 24 (take (n - 4) (drop 4 ws))) (take (length x - 4) (drop 4 x)))
+  two_parts m {n} {ws} e l long count =
       let a : List ℕ = read_all s 0 (take 4 ws) in
-      let b : List ℕ = read_all s 24 (take (p.number - 4) (drop 4 ws)) in
-      let all : take (p.number - 4) (drop 4 x) ≡ drop 4 x = take_all (p.number - 4) (drop 4 x) (omega (arith, length-drop 4 x, count)) in
+      let b : List ℕ = read_all s 24 (take (n - 4) (drop 4 ws)) in
+      let all : take (length x - 4) (drop 4 x) ≡ drop 4 x = take_all (length x - 4) (drop 4 x) (omega (arith, length-drop 4 x)) in
       let four : length a ≡ length (take 4 x) =
       length_read s 0 (take 4 ws) ∙ length-take-le 4 ws long ∙ sym (length-take-le 4 x (omega (arith, l.enough, count))) in
       of_section e

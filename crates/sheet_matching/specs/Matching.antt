@@ -1,15 +1,8 @@
 -- Whether bytes are a section with a given field sheet.
 -- Assumes nothing.
-use Rattle.std.specs.Prelude.{ℕ, Bool, true, false, ◌&&◌, List, [], ◌∷◌, eqb}
-use Rattle.section.specs.declared.Verdict.{Verdict}
-use Rattle.section.specs.declared.Verdict.TheVariants.{Accepted, Refused}
+use Rattle.std.specs.Prelude.{ℕ, Bool, true, false, ◌&&◌, List, [], ◌∷◌, eqb, is_ok}
 use Rattle.section.specs.Accept.{accept_of}
 use Rattle.sheet_reading.specs.SheetOf.{sheet_of}
-
--- the verdict accepts
-unfoldable pub is_accepted : Verdict → Bool
-is_accepted Accepted = true
-is_accepted (Refused r) = false
 
 -- the same numbers
 unfoldable pub same : List ℕ → List ℕ → Bool
@@ -20,4 +13,4 @@ same (x ∷ xs) (y ∷ ys) = eqb x y && same xs ys
 
 -- the bytes s are a section, and x is its sheet
 unfoldable pub is_sheet_of : List ℕ → List ℕ → Bool
-is_sheet_of x s = is_accepted (accept_of s) && same (sheet_of s) x
+is_sheet_of x s = is_ok (accept_of s) && same (sheet_of s) x

@@ -1,25 +1,20 @@
 -- `sheet_matching::is_sheet_of` meets its contract: a refused section has no sheet, and an accepted one has memory for its fields.
 -- Assumes nothing.
-use mathlib.Core.Path.{sym, ◌∙◌}
+use mathlib.Core.Path.{sym}
 use native.Mathlib.Omega.{arith}
 use Rattle.section.proofs.Accepted.{accepted}
-use Rattle.sheet_matching.proofs.Same.{not_section}
+use Rattle.sheet_matching.proofs.Same.{refused_first, not_refused}
 use Rattle.sheet_matching.proofs.is_sheet_of.Goals as goal
 
-pub returns-in-Refused : goal.returns-in-Refused
-returns-in-Refused c =
-    let accept = c.accept in
-    let a = c.args in
-    sym (not_section a.sheet.now a.section.now _ (sym accept.ensures ∙ c.in-Refused.is))
+pub returns-then-is_err : goal.returns-then-is_err
+returns-then-is_err c = sym (refused_first _ _ _ c.accept.ensures (sym c.if-is_err.ensures.value))
 
 pub same_sheet-requires : goal.same_sheet-requires
 same_sheet-requires c =
-    let if1 = c.if-section-le256 in
-    let e = sym c.accept.ensures ∙ c.in_default.is in
-    (e, omega (arith, if1.true, (accepted _ e).fits), omega arith)
+    let e = not_refused c.accept.ensures (sym c.if-is_err.ensures.value) in
+    (e, omega (arith, c.if-section-le256.true, (accepted _ e).fits), omega arith)
 
 pub same_sheet-requires-2 : goal.same_sheet-requires-2
 same_sheet-requires-2 c =
-    let if1 = c.if-section-le256 in
-    let e = sym c.accept.ensures ∙ c.in_default.is in
-    (e, omega (arith, if1.false, (accepted _ e).fits), omega arith)
+    let e = not_refused c.accept.ensures (sym c.if-is_err.ensures.value) in
+    (e, omega (arith, c.if-section-le256.false, (accepted _ e).fits), omega arith)

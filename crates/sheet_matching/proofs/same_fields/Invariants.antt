@@ -1,14 +1,11 @@
-use mathlib.Core.Path.{◌≡◌}
-use Prim.Native.Nat.{◌+◌, ◌-◌, ◌*◌, ◌≤◌}
+use Rattle.std.proofs.Common.{◌≡◌, ◌+◌, ◌*◌, ◌≤◌, length, drop}
 use Rattle.bits.specs.Bits.{read_all}
 use Rattle.sheet_matching.specs.Matching.{same}
-use Rattle.sheet_reading.proofs.Spans.{span}
 use Rattle.sheet_matching.proofs.same_fields.Given as goal
 
-abbrev pub invariant-loop-i : goal.invariant-loop-i
-invariant-loop-i l =
-    (l.from ≤ l.i) × (l.i ≤ l.to) × (l.place ≤ l.at + 255 * (l.i - l.from))
-    × (same (read_all l.section l.place (span l.i l.to l.widths)) (span l.i l.to l.sheet) ≡ same (read_all l.section l.at (span l.from l.to l.widths)) (span l.from l.to l.sheet))
-
-abbrev pub decreases-loop-i : goal.decreases-loop-i
-decreases-loop-i l = l.to - l.i
+abbrev pub invariant-loop-number : goal.invariant-loop-number
+invariant-loop-number l =
+    (goal.iterator-loop-number).can_next l.number-iterator ×
+    (goal.iterator-loop-number).is_finite l.number-iterator
+    × (l.place ≤ l.at + 255 * length l.yielded)
+    × (same (read_all l.section l.place (drop (length l.yielded) l.widths)) (drop (length l.yielded) l.sheet) ≡ same (read_all l.section l.at l.widths) l.sheet)
