@@ -4,7 +4,7 @@
 // beside these bytes, and what of it then is left after them.
 #![tactic(auto)]
 
-ghost use Rattle.std.specs.Prelude.{◌≡◌, ◌+◌, ◌-◌, ◌*◌, ◌/◌, ◌%◌, ◌^◌, ◌≤◌, ◌<◌, length, get_or};
+ghost use Rattle.std.specs.Prelude.{◌≡◌, ◌+◌, ◌-◌, ◌*◌, ◌/◌, ◌%◌, ◌^◌, ◌≤◌, ◌<◌, length};
 ghost use Rattle.std.specs.Int.Bits.{bit_xor};
 ghost use Rattle.bits.specs.Bits.{bit, num};
 ghost use Rattle.crc_steps.specs.Steps.{zeros};
@@ -66,13 +66,12 @@ fn spill(m: usize) -> u32
     low((0xFFFF_FFFF << (8 * m)) << 8)
 }
 
-// The first eight bytes as a number, gathered in one and not in two halves: the compiler then makes one load of it.
+// The first eight bytes as a number.
 fn eight(s: &[u8]) -> u64
     requires { 8 ≤ length s.now }
     ensures { result ≡ num (bit s.now) 0 64 }
 {
-    let four = ((byte(s, 0) * 256 + byte(s, 1)) * 256 + byte(s, 2)) * 256 + byte(s, 3);
-    (((four * 256 + byte(s, 4)) * 256 + byte(s, 5)) * 256 + byte(s, 6)) * 256 + byte(s, 7)
+    u64::from_be_bytes([s[0], s[1], s[2], s[3], s[4], s[5], s[6], s[7]])
 }
 
 // The same of fewer, with zeros past the end. From the last to the first: were the first read here before the others, the compiler
@@ -82,7 +81,7 @@ fn few(s: &[u8]) -> u64
 {
     let mut x: u64 = 0;
     for i in (0..s.len()).rev() {
-        x = (x >> 8) + (byte(s, i) << 56);
+        x = (x >> 8) + (u64::from(s[i]) << 56);
     }
     x
 }
@@ -107,15 +106,7 @@ fn turn(a: u32, b: u32) -> u32
 fn word(a: u8, b: u8, c: u8, d: u8) -> u32
     ensures { result ≡ ((a * 256 + b) * 256 + c) * 256 + d }
 {
-    (((a as u32) * 256 + (b as u32)) * 256 + (c as u32)) * 256 + (d as u32)
-}
-
-// The byte at i.
-fn byte(s: &[u8], i: usize) -> u64
-    requires { i < length s.now }
-    ensures { (result ≡ get_or s.now i 0) × (result < 256) }
-{
-    s[i] as u64
+    u32::from_be_bytes([a, b, c, d])
 }
 
 // The upper half of x.

@@ -85,7 +85,7 @@ fn put_groups(text: &[u8], n: usize, own: &mut [u8]) -> bool
 fn byte(bytes: &[u8], i: usize) -> u8
     ensures { result ≡ get_or bytes.now i 0 }
 {
-    if i < bytes.len() { bytes[i] } else { 0 }
+    bytes.get(i).copied().unwrap_or(0)
 }
 
 // Reads a text of whole groups by way of the reader's own memory, which has room for three bytes a group.

@@ -83,7 +83,7 @@ fn character(v: u8) -> u8
 fn byte(section: &[u8], i: usize) -> u8
     ensures { (result ≡ get_or section.now i 0) × (result < 256) }
 {
-    if i < section.len() { section[i] } else { 0 }
+    section.get(i).copied().unwrap_or(0)
 }
 
 // The characters of the whole groups of three bytes, written to the front of out.
