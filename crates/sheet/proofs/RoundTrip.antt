@@ -16,12 +16,11 @@ use Rattle.bits.proofs.Bytes.{AreBytes}
 use Rattle.bits.proofs.Fields.{written_bytes}
 use Rattle.crc.specs.Crc.{crc32}
 use Rattle.units.specs.declared.refusals.Refusal.TheVariants.{Sheet}
-use Rattle.units.specs.declared.refusals.Written.TheVariants.{Count, Refused}
+use Rattle.units.specs.declared.refusals.Refusal.{Refusal}
+use Rattle.std.specs.Prelude.{Result, Ok, Err, is_ok}
 use Rattle.units.specs.Answers.{answer, memory}
-use Rattle.section.specs.declared.Verdict.{Verdict}
-use Rattle.section.specs.declared.Verdict.TheVariants.{Accepted}
 use Rattle.section.specs.Accept.{accept_of}
-use Rattle.sheet.specs.Sheet.{sheet_of, fields_between, room_for, fitting, length_for, plan_for, filled, summed, section_of, is_accepted, same, is_sheet_of, section_row, to_section, to_section_into, to_sheet, to_sheet_into}
+use Rattle.sheet.specs.Sheet.{sheet_of, fields_between, room_for, fitting, length_for, plan_for, filled, summed, section_of, same, is_sheet_of, section_row, to_section, to_section_into, to_sheet, to_sheet_into}
 use Rattle.sheet_reading.proofs.Trace.{whole}
 use Rattle.sheet_reading.proofs.SheetRows.{sheet_written}
 use Rattle.sheet_matching.proofs.Same.{same_refl, same_true}
@@ -30,25 +29,24 @@ use Rattle.sheet.proofs.Back.{back, zero_bytes, all_bytes, front_bytes}
 -- the bytes s are an accepted section with the sheet x
 pub record Has (x s : List ℕ) : Type 0 where
   pub bytes : AreBytes s
-  pub accepted : accept_of s ≡ Accepted
+  pub accepted : accept_of s ≡ Ok tt
   pub sheet : sheet_of s ≡ x
 
 -- ---- the tests
 
-accepted_true : (v : Verdict) → is_accepted v ≡ true → v ≡ Accepted
-unfolding is_accepted
-accepted_true Accepted e = refl
-accepted_true (Verdict.Refused r) e = absurd (false≢true e)
+accepted_true : (v : Result (Unit {0}) Refusal) → is_ok v ≡ true → v ≡ Ok tt
+accepted_true (Ok u) e = refl
+accepted_true (Err r) e = absurd (false≢true e)
 
-passes : (x s : List ℕ) → accept_of s ≡ Accepted → sheet_of s ≡ x → is_sheet_of x s ≡ true
-unfolding is_sheet_of is_accepted
-passes x s a e = ap₂ ◌&&◌ (ap is_accepted a) (ap (λ (l : List ℕ). same l x) e ∙ same_refl x)
+passes : (x s : List ℕ) → accept_of s ≡ Ok tt → sheet_of s ≡ x → is_sheet_of x s ≡ true
+unfolding is_sheet_of
+passes x s a e = ap₂ ◌&&◌ (ap is_ok a) (ap (λ (l : List ℕ). same l x) e ∙ same_refl x)
 
-passed : (x s : List ℕ) → is_sheet_of x s ≡ true → (accept_of s ≡ Accepted) × (sheet_of s ≡ x)
+passed : (x s : List ℕ) → is_sheet_of x s ≡ true → (accept_of s ≡ Ok tt) × (sheet_of s ≡ x)
 unfolding is_sheet_of
 passed x s e = (
-  accepted_true (accept_of s) (and_left (is_accepted (accept_of s)) (same (sheet_of s) x) e),
-  same_true (sheet_of s) x (and_right (is_accepted (accept_of s)) _ e),
+  accepted_true (accept_of s) (and_left (is_ok (accept_of s)) (same (sheet_of s) x) e),
+  same_true (sheet_of s) x (and_right (is_ok (accept_of s)) _ e),
 )
 
 -- what a sheet makes is bytes
@@ -78,11 +76,11 @@ made_bytes x = go (fitting x)
 -- ---- there and back
 
 -- (a) the sheet of an accepted section makes that section, byte for byte
-pub section_sheet_section : (s : List ℕ) → AreBytes s → accept_of s ≡ Accepted → section_of (sheet_of s) ≡ s
+pub section_sheet_section : (s : List ℕ) → AreBytes s → accept_of s ≡ Ok tt → section_of (sheet_of s) ≡ s
 section_sheet_section s bytes a = back s bytes (whole s a)
 
 -- and it is not refused
-pub sheet_accepted : (s : List ℕ) → AreBytes s → accept_of s ≡ Accepted → is_sheet_of (sheet_of s) (section_of (sheet_of s)) ≡ true
+pub sheet_accepted : (s : List ℕ) → AreBytes s → accept_of s ≡ Ok tt → is_sheet_of (sheet_of s) (section_of (sheet_of s)) ≡ true
 sheet_accepted s bytes a = subst (λ (l : List ℕ). is_sheet_of (sheet_of s) l ≡ true) (sym (section_sheet_section s bytes a)) (passes (sheet_of s) s a refl)
 
 -- (b) what a sheet makes that is not refused is an accepted section, and has that sheet
@@ -138,15 +136,15 @@ pub row_sheet : (x : List ℕ) (room : ℕ) → NoSection x → section_row x ro
 row_sheet x room h = first_row x room false (is_false (is_sheet_of x (section_of x)) (λ e. h (section_of x) (sheet_section_sheet x e)))
 
 -- the same of the answer
-pub refused_sheet : (x out : List ℕ) → NoSection x → (to_section x out ≡ Refused Sheet) × (to_section_into x out ≡ out)
+pub refused_sheet : (x out : List ℕ) → NoSection x → (to_section x out ≡ Err Sheet) × (to_section_into x out ≡ out)
 unfolding to_section to_section_into
 refused_sheet x out h =
     let e : section_row x (length out) ≡ 15 = row_sheet x (length out) h in
     (ap (λ (n : ℕ). answer n (length (section_of x))) e, ap (λ (n : ℕ). memory n (section_of x) out) e)
 
 -- where there is room, the sheet of a section answers with that section
-pub written_back : (s out : List ℕ) → AreBytes s → accept_of s ≡ Accepted → length s ≤ length out
-    → (to_section (sheet_of s) out ≡ Count (length s)) × (to_section_into (sheet_of s) out ≡ s ++ drop (length s) out)
+pub written_back : (s out : List ℕ) → AreBytes s → accept_of s ≡ Ok tt → length s ≤ length out
+    → (to_section (sheet_of s) out ≡ Ok (length s)) × (to_section_into (sheet_of s) out ≡ s ++ drop (length s) out)
 unfolding to_section to_section_into
 written_back s out bytes a room =
     let x : List ℕ = sheet_of s in
@@ -157,17 +155,17 @@ written_back s out bytes a room =
     (ap₂ (λ (n : ℕ) (l : List ℕ). answer n (length l)) row e, ap₂ (λ (n : ℕ) (l : List ℕ). memory n l out) row e)
 
 -- the mirror: a sheet that is not refused comes back from the section that it makes, where there is room
-pub read_back : (x lent out : List ℕ) → (to_section x lent ≡ Refused Sheet → ⊥) → length x ≤ length out
-    → (to_sheet (section_of x) out ≡ Count (length x)) × (to_sheet_into (section_of x) out ≡ x ++ drop (length x) out)
+pub read_back : (x lent out : List ℕ) → (to_section x lent ≡ Err Sheet → ⊥) → length x ≤ length out
+    → (to_sheet (section_of x) out ≡ Ok (length x)) × (to_sheet_into (section_of x) out ≡ x ++ drop (length x) out)
 read_back x lent out h room =
     let has = sheet_section_sheet x (⊎_elim (λ q. q) (λ q. absurd (h (refused_sheet x lent (none_made x q)).0)) (by_cases (is_sheet_of x (section_of x)))) in
     let is = sheet_written (section_of x) out has.accepted (omega (arith, ap length has.sheet)) in (
-      sym is.0 ∙ ap (λ (l : List ℕ). Count (length l)) has.sheet,
+      sym is.0 ∙ ap (λ (l : List ℕ). Ok (length l)) has.sheet,
       sym is.1 ∙ ap (λ (l : List ℕ). l ++ drop (length l) out) has.sheet,
     )
 
 -- and a count is answered only for the sheet of a section, with that section's bytes in front
-pub counted : (x out : List ℕ) (n : ℕ) → to_section x out ≡ Count n
+pub counted : (x out : List ℕ) (n : ℕ) → to_section x out ≡ Ok n
     → Has x (section_of x) × (n ≡ length (section_of x)) × (to_section_into x out ≡ section_of x ++ drop (length (section_of x)) out)
 unfolding to_section to_section_into
 counted x out n e =
@@ -177,6 +175,6 @@ counted x out n e =
       ap (λ (i : ℕ). memory i (section_of x) out) row.0,
     )
   where
-    no_row : (row k m : ℕ) → answer row k ≡ Count m → (row ≡ 0) × (k ≡ m)
+    no_row : (row k m : ℕ) → answer row k ≡ Ok m → (row ≡ 0) × (k ≡ m)
     no_row zero k m q = (refl, cc)
     no_row (suc row) k m q = let z : ◌≡◌ {A = ℕ} 0 1 = cc in absurd (omega arith)

@@ -10,17 +10,17 @@ use lib.Dec.{leb, ltb, eqb}
 use borrow.Author.Tests.{le-leb, leb-true, leb-false, lt-ltb, le-ltb, eq-eqb, eqb-true}
 use Rattle.bits.proofs.Cases.{is_false, and_left, and_right}
 use Rattle.units.specs.declared.refusals.Refusal.TheVariants.{Room, Sheet}
-use Rattle.units.specs.declared.refusals.Written.{Written}
-use Rattle.units.specs.declared.refusals.Written.TheVariants.{Count, Refused}
+use Rattle.units.specs.declared.refusals.Refusal.{Refusal}
+use Rattle.std.specs.Prelude.{Result, Ok, Err}
 use Rattle.units.specs.Answers.{answer, memory}
 use Rattle.units.specs.Put.{fits, put_into}
 use Rattle.units.proofs.Put.{at_front, unchanged}
 use Rattle.section.specs.Accept.{accept_row, verdict, accept_of}
-use Rattle.sheet.specs.Sheet.{plan_for, length_for, fitting, filled, summed, section_of, is_accepted, is_sheet_of, room_for, row_for, Judged, section_row, to_section, to_section_into}
+use Rattle.sheet.specs.Sheet.{plan_for, length_for, fitting, filled, summed, section_of, is_sheet_of, room_for, row_for, Judged, section_row, to_section, to_section_into}
 
 -- no bytes are no section
 nothing : (x : List ℕ) → is_sheet_of x [] ≡ false
-unfolding is_sheet_of accept_of accept_row verdict is_accepted
+unfolding is_sheet_of accept_of accept_row verdict
 nothing x = refl
 
 -- numbers that do not fit make no section
@@ -42,7 +42,7 @@ module _ (x out : List ℕ) where
   to_section_lem row e = (ap (λ (n : ℕ). answer n (length (section_of x))) (sym e), ap (λ (n : ℕ). memory n (section_of x) out) (sym e))
 
   -- bytes that are those that x makes are judged as x is
-  pub judged_as : {b : List ℕ} {r : Written} {m : List ℕ} → b ≡ section_of x → Judged x b out r m → (r ≡ to_section x out) × (m ≡ to_section_into x out)
+  pub judged_as : {b : List ℕ} {r : Result ℕ Refusal} {m : List ℕ} → b ≡ section_of x → Judged x b out r m → (r ≡ to_section x out) × (m ≡ to_section_into x out)
   unfolding to_section to_section_into section_row
   judged_as e j = (
     j.answers ∙ ap (λ (l : List ℕ). answer (row_for x l (length out)) (length l)) e,
@@ -50,13 +50,13 @@ module _ (x out : List ℕ) where
   )
 
   -- not a sheet
-  pub no_sheet : is_sheet_of x (section_of x) ≡ false → (Refused Sheet ≡ to_section x out) × (out ≡ to_section_into x out)
+  pub no_sheet : is_sheet_of x (section_of x) ≡ false → (Err Sheet ≡ to_section x out) × (out ≡ to_section_into x out)
   unfolding section_row
   no_sheet e = to_section_lem 15 (ap (λ (t : Bool). cond (not t) 15 room_row) e)
 
   -- too few numbers, too many, too many bits, or another count than that of the fields
   pub no_fit : (11 ≤ length x → length x ≤ 32768 → (plan_for x).at ≤ 32736 → (plan_for x).number ≡ length x → ⊥)
-      → (Refused Sheet ≡ to_section x out) × (out ≡ to_section_into x out)
+      → (Err Sheet ≡ to_section x out) × (out ≡ to_section_into x out)
   unfolding fitting
   no_fit h = no_sheet (unfit x (is_false (fitting x) none))
     where
@@ -89,23 +89,23 @@ module _ (x s out : List ℕ) where
         holds = ap (λ (n : ℕ). memory n s out) (sym e);
       }
 
-  pub not_it : is_sheet_of x s ≡ false → Judged x s out (Refused Sheet) out
+  pub not_it : is_sheet_of x s ≡ false → Judged x s out (Err Sheet) out
   not_it e = judged 15 (ap (λ (t : Bool). cond (not t) 15 (cond (ltb (length out) (length s)) 11 0)) e)
 
   -- it is, with too little room and with enough
-  no_room_for : is_sheet_of x s ≡ true → length out < length s → Judged x s out (Refused Room) out
+  no_room_for : is_sheet_of x s ≡ true → length out < length s → Judged x s out (Err Room) out
   no_room_for e h = judged 11 (ap₂ (λ (t u : Bool). cond (not t) 15 (cond u 11 0)) e (lt-ltb _ _ h))
 
-  section_written : is_sheet_of x s ≡ true → length s ≤ length out → Judged x s out (Count (length s)) (s ++ drop (length s) out)
+  section_written : is_sheet_of x s ≡ true → length s ≤ length out → Judged x s out (Ok (length s)) (s ++ drop (length s) out)
   section_written e h = judged 0 (ap₂ (λ (t u : Bool). cond (not t) 15 (cond u 11 0)) e (le-ltb _ _ h))
 
   -- by what `lent::put` says of the section's bytes
-  pub put_nowhere : is_sheet_of x s ≡ true → (p : List ℕ) → p ≡ s → fits out 0 p ≡ false → Judged x s out (Refused Room) (put_into out 0 p)
+  pub put_nowhere : is_sheet_of x s ≡ true → (p : List ℕ) → p ≡ s → fits out 0 p ≡ false → Judged x s out (Err Room) (put_into out 0 p)
   put_nowhere e p q h =
       let is = no_room_for e (omega (arith, leb-false (0 + length p) (length out) h, ap length q)) in
       record { answers = is.answers; holds = unchanged out 0 p h ∙ is.holds }
 
-  pub put_there : is_sheet_of x s ≡ true → (p : List ℕ) → p ≡ s → fits out 0 p ≡ true → Judged x s out (Count (length s)) (put_into out 0 p)
+  pub put_there : is_sheet_of x s ≡ true → (p : List ℕ) → p ≡ s → fits out 0 p ≡ true → Judged x s out (Ok (length s)) (put_into out 0 p)
   put_there e p q h =
       let is = section_written e (omega (arith, leb-true (0 + length p) (length out) h, ap length q)) in
       record { answers = is.answers; holds = at_front out p h ∙ ap (λ (l : List ℕ). l ++ drop (length l) out) q ∙ is.holds }

@@ -1,11 +1,11 @@
 -- The way back from a field sheet to its section; and, passed on, the sheet of a section and whether bytes have it.
 -- Assumes nothing.
 unfoldable pub use Rattle.sheet_reading.specs.SheetOf.{section_trace, sheet_of, to_sheet, to_sheet_into}
-unfoldable pub use Rattle.sheet_matching.specs.Matching.{is_accepted, same, is_sheet_of}
-use Rattle.std.specs.Prelude.{◌≡◌, ℕ, ◌+◌, ◌-◌, ◌*◌, ◌/◌, Bool, cond, not, ◌&&◌, List, [], ◌∷◌, length, take, drop, replicate, leb, ltb, eqb}
+unfoldable pub use Rattle.sheet_matching.specs.Matching.{same, is_sheet_of}
+use Rattle.std.specs.Prelude.{◌≡◌, ℕ, ◌+◌, ◌-◌, ◌*◌, ◌/◌, Bool, cond, not, ◌&&◌, List, [], ◌∷◌, length, take, drop, replicate, leb, ltb, eqb, Result}
 use Rattle.bits.specs.Bits.{written_of, write_all}
 use Rattle.crc.specs.Crc.{crc32}
-use Rattle.units.specs.declared.refusals.Written.{Written}
+use Rattle.units.specs.declared.refusals.Refusal.{Refusal}
 use Rattle.units.specs.Refusals.{first}
 use Rattle.units.specs.Answers.{answer, memory}
 use Rattle.fields.specs.Fields.{Plan}
@@ -59,7 +59,7 @@ unfoldable pub section_row : List ℕ → ℕ → ℕ
 section_row x room = row_for x (section_of x) room
 
 -- what the way from a sheet to its section answers
-unfoldable pub to_section : List ℕ → List ℕ → Written
+unfoldable pub to_section : List ℕ → List ℕ → Result ℕ Refusal
 to_section x out = answer (section_row x (length out)) (length (section_of x))
 
 -- what the lent memory then holds
@@ -69,6 +69,6 @@ to_section_into x out = memory (section_row x (length out)) (section_of x) out
 -- ---- for a private function
 
 -- the answer r and the memory m that the bytes s get as what the sheet x makes
-pub record Judged (x s out : List ℕ) (r : Written) (m : List ℕ) : Type 0 where
+pub record Judged (x s out : List ℕ) (r : Result ℕ Refusal) (m : List ℕ) : Type 0 where
   pub answers : r ≡ answer (row_for x s (length out)) (length s)
   pub holds : m ≡ memory (row_for x s (length out)) s out

@@ -40,14 +40,13 @@ made-requires c =
       room_enough (length (sheet)) 256 32768 c.requires.1,
     ) in
     let if3 = c.if-n-le256 in
-    let if1 = c.if-fields-gt32736 in
-    let widths = c.widths-1 in (
+    let if1 = c.if-fields-gt32736 in (
       omega arith,
       omega (arith, if1.false),
       omega (arith, if3.true, if1.false),
       omega (arith, c.requires.0),
       c.requires.1,
-      omega (arith, long, widths.given),
+      omega (arith, long),
     )
 
 pub returns-then-n-le256 : goal.returns-then-n-le256
@@ -77,14 +76,13 @@ made-requires-2 c =
       room_enough (length (sheet)) 256 32768 c.requires.1,
     ) in
     let if3 = c.if-n-le256 in
-    let if1 = c.if-fields-gt32736 in
-    let widths = c.widths-1 in (
+    let if1 = c.if-fields-gt32736 in (
       omega arith,
       omega (arith, if1.false),
       omega (arith, if3.false, if1.false),
       omega (arith, c.requires.0),
       c.requires.1,
-      omega (arith, long, widths.given),
+      omega (arith, long),
     )
 
 pub returns : goal.returns

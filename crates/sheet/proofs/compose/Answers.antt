@@ -23,5 +23,5 @@ returns c =
     ∙ ap (λ (l : List ℕ). write_all l 24 (fields 4 (length a.sheet.now)))
     (c.write.ensures.1 ∙ ap (λ (l : List ℕ). written_of l 12 12 (a.n - 3)) c.write_fields.ensures) in
     c.write-2.ensures.1
-    ∙ ap (λ (v : ℕ). written_of c.write_fields-2.new.section (8 * (a.n - 4)) 32 v) c.crc-sum.ensures
+    ∙ ap (λ (v : ℕ). written_of c.write_fields-2.new.section (8 * (a.n - 4)) 32 v) (c.from.ensures ∙ c.crc-sum.ensures)
     ∙ ap (summed a.n) whole

@@ -7,7 +7,7 @@ use Prim.Native.Nat.{ℕ}
 use native.Mathlib.Omega.{arith}
 use lib.ListN.{length, take}
 use lib.Seq.{length-take-le}
-use Rattle.units.specs.declared.refusals.Written.TheVariants.{Count}
+use Rattle.std.specs.Prelude.{Ok}
 use Rattle.sheet.specs.Sheet.{filled, summed, is_sheet_of}
 use Rattle.sheet.proofs.Rows.{not_it, put_there, put_nowhere}
 use Rattle.sheet.proofs.made.Goals as goal
@@ -15,7 +15,7 @@ use Rattle.sheet.proofs.made.Goals as goal
 pub slice_bounds-is_sheet_of-end-2 : goal.slice_bounds-is_sheet_of-end-2
 slice_bounds-is_sheet_of-end-2 c =
     let made : List ℕ = take c.args.n c.compose.new.memory in
-    let long : length (made) ≡ c.args.n = length-take-le c.args.n c.compose.new.memory (omega (arith, c.memory-1.given, c.requires.2)) in
+    let long : length (made) ≡ c.args.n = length-take-le c.args.n c.compose.new.memory (omega (arith, c.requires.2)) in
     sym (long)
 
 pub returns-then-not-is_sheet_of : goal.returns-then-not-is_sheet_of
@@ -31,7 +31,7 @@ returns-then-not-is_sheet_of c =
 pub slice_bounds-put-end-2 : goal.slice_bounds-put-end-2
 slice_bounds-put-end-2 c =
     let made : List ℕ = take c.args.n c.compose.new.memory in
-    let long : length (made) ≡ c.args.n = length-take-le c.args.n c.compose.new.memory (omega (arith, c.memory-1.given, c.requires.2)) in
+    let long : length (made) ≡ c.args.n = length-take-le c.args.n c.compose.new.memory (omega (arith, c.requires.2)) in
     sym (long)
 
 pub returns-then-put : goal.returns-then-put
@@ -40,7 +40,7 @@ returns-then-put c =
     let defined : List ℕ = let a = c.args in
     take a.n (summed a.n (filled a.sheet.now a.n a.widths.now a.memory.now)) in
     let same_bytes : made ≡ defined = ap (take c.args.n) c.compose.ensures in
-    let long : length (made) ≡ c.args.n = length-take-le c.args.n c.compose.new.memory (omega (arith, c.memory-1.given, c.requires.2)) in
+    let long : length (made) ≡ c.args.n = length-take-le c.args.n c.compose.new.memory (omega (arith, c.requires.2)) in
     let it-is : is_sheet_of c.args.sheet.now (defined) ≡ true = let a = c.args in
     let is-sheet-of = c.is_sheet_of in
     ap (is_sheet_of a.sheet.now) (sym (same_bytes))
@@ -50,7 +50,7 @@ returns-then-put c =
     let a = c.args in
     let size : length (defined) ≡ a.n = sym (ap length (same_bytes)) ∙ long in
     let is = put_there a.sheet.now (defined) a.out.now (it-is) (made) (same_bytes) (sym put.ensures.0 ∙ c.if-put.true) in
-    record { answers = ap Count (sym size) ∙ is.answers; holds = put.ensures.1 ∙ is.holds }
+    record { answers = ap Ok (sym size) ∙ is.answers; holds = put.ensures.1 ∙ is.holds }
 
 pub returns-else-put : goal.returns-else-put
 returns-else-put c =

@@ -1,55 +1,44 @@
 -- `sheet::write_fields` meets its contract. The loop's invariant: writing the fields that are left gives what writing all of them gives.
 -- Assumes nothing.
-use mathlib.Core.Path.{◌≡◌, refl, sym, ap, ap₂, ◌∙◌}
-use mathlib.Core.List.{List, ◌∷◌}
-use Prim.Native.Nat.{ℕ, ◌+◌}
-use native.Mathlib.Omega.{arith}
-use lib.ListN.{get_or}
-use borrow.Author.Rules.{rules}
-use Rattle.bits.specs.Bits.{write_all}
-use Rattle.sheet.specs.Sheet.{pairs, fields_between}
-use Rattle.sheet_reading.proofs.Spans.{span, span_next, span_none}
+use Rattle.std.proofs.Common.{◌≡◌, ◌+◌, ◌<◌, ◌≤◌, ℕ, List, length, get_or, drop, ◌∙◌, arith, drop-cons, add-one}
+use Rattle.std.proofs.lemmas.List.{length_push}
+use Rattle.std.proofs.lemmas.Slice.Zip.{zip_turn, zip_end}
+use Rattle.std.proofs.Math.ListN.{drop_of_length-le}
+use Rattle.bits.specs.Bits.{written_of, write_all}
+use Rattle.sheet.specs.Sheet.{pairs}
 use Rattle.sheet.proofs.write_fields.Goals as goal
 
-pub loop-i-init : goal.loop-i-init
-loop-i-init c = (omega arith, omega arith, refl, omega arith, refl)
+module _ (ws xs : List ℕ) (place i : ℕ) where
+  -- this field and those after it
+  write_next : (s : List ℕ) {l : List ℕ} {w x n : ℕ} → i < length ws → i < length xs → w ≡ get_or ws i 0 → x ≡ get_or xs i 0 → l ≡ written_of s place w x → n ≡ i + 1
+      → write_all l (place + w) (pairs (drop n ws) (drop n xs)) ≡ write_all s place (pairs (drop i ws) (drop i xs))
+  unfolding write_all
+  write_next s h k a b e n = rw (e, n, add-one, drop-cons ws i 0 h, drop-cons xs i 0 k, ← a, ← b)
 
-pub overflow_cast-width : goal.overflow_cast-width
-overflow_cast-width c = omega (arith, c.shared_slice_known-in-loop-i-1.given c.loop-i.i)
+  -- nothing is left
+  write_end : (s : List ℕ) → length ws ≤ i → s ≡ write_all s place (pairs (drop i ws) (drop i xs))
+  unfolding write_all
+  write_end s h = rw (drop_of_length-le ws h)
 
 pub overflow_add-place : goal.overflow_add-place
-overflow_add-place c = omega (arith, c.shared_slice_known-in-loop-i-1.given c.loop-i.i)
+overflow_add-place c =
+    let turn = zip_turn c.args.sheet.now c.args.widths.now c.loop-number.yielded c.into_iter-number-iterator.result c.loop-number.number-iterator c.next.new.self c.next.result (cc) (cc) c.loop-number.yielded_by (c.in-Some.number, c.in-Some.width) c.in-Some.is c.next.ensures.steps in
+    omega (arith, c.type_inv.widths (length c.loop-number.yielded), turn.3 0)
 
-pub loop-i-preserved : goal.loop-i-preserved
-unfolding write_all
-loop-i-preserved c =
-    let write = c.write in
-    let loop = c.loop-i in
-    let a = c.args in
-    let w : ℕ = get_or a.widths.now loop.i 0 in
-    let v : ℕ = get_or a.sheet.now loop.i 0 in
-    let rest : List (ℕ × ℕ) = fields_between (loop.i + 1) a.to a.widths.now a.sheet.now in
-    let next : fields_between loop.i a.to a.widths.now a.sheet.now ≡ (w, v) ∷ rest =
-    ap₂ pairs
-    (span_next loop.i a.to a.widths.now (omega arith) (omega arith))
-    (span_next loop.i a.to a.sheet.now (omega arith) (omega arith)) in (
-      omega arith,
-      omega arith,
-      search rules,
-      omega (arith, c.shared_slice_known-in-loop-i-1.given loop.i),
-      ap (λ (m : List ℕ). write_all m (loop.place + w) rest) write.ensures.1
-          ∙ ap (write_all loop.section loop.place) (sym next)
-          ∙ loop.invariant.4,
+pub loop-number-preserved : goal.loop-number-preserved
+loop-number-preserved c =
+    let turn = zip_turn c.args.sheet.now c.args.widths.now c.loop-number.yielded c.into_iter-number-iterator.result c.loop-number.number-iterator c.next.new.self c.next.result (cc) (cc) c.loop-number.yielded_by (c.in-Some.number, c.in-Some.width) c.in-Some.is c.next.ensures.steps in
+    let more = length_push c.loop-number.yielded (c.in-Some.number, c.in-Some.width) in (
+      (tt, tt),
+      tt,
+      omega (arith, more, c.type_inv.widths (length c.loop-number.yielded), turn.3 0, c.from-width.ensures),
+      write_next c.args.widths.now c.args.sheet.now c.loop-number.place (length c.loop-number.yielded) _ turn.1 turn.0
+          (c.from-width.ensures ∙ turn.3 0) (turn.2 0) c.write.ensures.1 more
+          ∙ c.loop-number.invariant.3,
     )
 
-pub shape_of-section : goal.shape_of-section
-shape_of-section c = c.loop-i.invariant.2
-
 pub returns : goal.returns
-unfolding write_all
 returns c =
-    let loop = c.loop-i in
-    let a = c.args in
-    ap (λ (ws : List ℕ). write_all loop.section loop.place (pairs ws (span loop.i a.to a.sheet.now)))
-    (sym (span_none loop.i a.to a.widths.now (omega arith)))
-    ∙ loop.invariant.4
+    let count = zip_end c.args.sheet.now c.args.widths.now c.loop-number.yielded c.into_iter-number-iterator.result c.loop-number.number-iterator c.next.new.self c.next.result (cc) (cc) c.loop-number.yielded_by c.in-None.is c.next.ensures.steps in
+    write_end c.args.widths.now c.args.sheet.now c.loop-number.place (length c.loop-number.yielded) _ (omega (arith, count))
+    ∙ c.loop-number.invariant.3

@@ -1,14 +1,11 @@
-use mathlib.Core.Path.{◌≡◌}
-use Prim.Native.Nat.{◌+◌, ◌-◌, ◌*◌, ◌≤◌}
-use lib.ListN.{length}
+use Rattle.std.proofs.Common.{◌≡◌, ◌+◌, ◌*◌, ◌≤◌, length, drop}
 use Rattle.bits.specs.Bits.{write_all}
-use Rattle.sheet.specs.Sheet.{fields_between}
+use Rattle.sheet.specs.Sheet.{pairs}
 use Rattle.sheet.proofs.write_fields.Given as goal
 
-abbrev pub invariant-loop-i : goal.invariant-loop-i
-invariant-loop-i l =
-    (l.from ≤ l.i) × (l.i ≤ l.to) × (length l.section ≡ length l.initial.section) × (l.place ≤ l.at + 255 * (l.i - l.from))
-    × (write_all l.section l.place (fields_between l.i l.to l.widths l.sheet) ≡ write_all l.initial.section l.at (fields_between l.from l.to l.widths l.sheet))
-
-abbrev pub decreases-loop-i : goal.decreases-loop-i
-decreases-loop-i l = l.to - l.i
+abbrev pub invariant-loop-number : goal.invariant-loop-number
+invariant-loop-number l =
+    (goal.iterator-loop-number).can_next l.number-iterator ×
+    (goal.iterator-loop-number).is_finite l.number-iterator
+    × (l.place ≤ l.at + 255 * length l.yielded)
+    × (write_all l.section l.place (pairs (drop (length l.yielded) l.widths) (drop (length l.yielded) l.sheet)) ≡ write_all l.initial.section l.at (pairs l.widths l.sheet))
