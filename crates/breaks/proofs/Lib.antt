@@ -1,4 +1,3 @@
-pub mod OtherKinds
 pub mod Left
 pub mod Longest
 pub mod Standing

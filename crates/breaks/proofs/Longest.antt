@@ -8,40 +8,36 @@ use Prim.Native.Nat.{ℕ, ◌≤◌}
 use native.Mathlib.Omega.{arith}
 use lib.Dec.{leb, eqb}
 use borrow.Author.Tests.{le-leb, lt-leb, leb-true, leb-false, eq-eqb, ne_eqb}
-use Rattle.units.specs.declared.clock.Ticks.{Ticks}
-use Rattle.units.specs.declared.clock.EventId.{EventId}
-use Rattle.descriptor_reading.specs.declared.answers.Descriptor.{Descriptor}
+use Rattle.std.specs.Prelude.{Option, Some, None}
 use Rattle.breaks.specs.declared.signal.Measure.{Measure}
 use Rattle.breaks.specs.declared.signal.Signal.{Signal}
-use Rattle.breaks.specs.Signals.{opens, some_opens, carried, counted, longer, longest_by, signal_of, with_one}
+use Rattle.breaks.specs.Signals.{Reading, opens, some_opens, carried, counted, longer, longest_by, signal_of, with_one}
 
 -- ---- the longer of two
 
-absent_last : (a : Measure) → longer a Measure.Absent ≡ a
-absent_last Measure.Absent = refl
-absent_last (Measure.Present i x) = refl
+absent_last : (a : Option Measure) → longer a None ≡ a
+absent_last None = refl
+absent_last (Some x) = refl
 
-all_present : (i j k : EventId) (x y z : Ticks) (t u : Bool) → leb y.0 x.0 ≡ t → leb z.0 y.0 ≡ u
-    → longer (cond t (Measure.Present i x) (Measure.Present j y)) (Measure.Present k z)
-    ≡ longer (Measure.Present i x) (cond u (Measure.Present j y) (Measure.Present k z))
-all_present i j k x y z true true e q =
-    ap (λ (b : Bool). cond b (Measure.Present i x) (Measure.Present k z)) (le-leb z.0 x.0 (omega (arith, leb-true y.0 x.0 e, leb-true z.0 y.0 q)))
-    ∙ ap (λ (b : Bool). cond b (Measure.Present i x) (Measure.Present j y)) (sym e)
-all_present i j k x y z true false e q = refl
-all_present i j k x y z false true e q =
-    ap (λ (b : Bool). cond b (Measure.Present j y) (Measure.Present k z)) q
-    ∙ ap (λ (b : Bool). cond b (Measure.Present i x) (Measure.Present j y)) (sym e)
-all_present i j k x y z false false e q =
-    ap (λ (b : Bool). cond b (Measure.Present j y) (Measure.Present k z)) q
-    ∙ ap (λ (b : Bool). cond b (Measure.Present i x) (Measure.Present k z))
-    (sym (lt-leb z.0 x.0 (omega (arith, leb-false y.0 x.0 e, leb-false z.0 y.0 q))))
+all_there : (x y z : Measure) (t u : Bool) → leb y.ticks.0 x.ticks.0 ≡ t → leb z.ticks.0 y.ticks.0 ≡ u
+    → longer (cond t (Some x) (Some y)) (Some z) ≡ longer (Some x) (cond u (Some y) (Some z))
+all_there x y z true true e q =
+    ap (λ (b : Bool). cond b (Some x) (Some z)) (le-leb z.ticks.0 x.ticks.0 (omega (arith, leb-true y.ticks.0 x.ticks.0 e, leb-true z.ticks.0 y.ticks.0 q)))
+    ∙ ap (λ (b : Bool). cond b (Some x) (Some y)) (sym e)
+all_there x y z true false e q = refl
+all_there x y z false true e q =
+    ap (λ (b : Bool). cond b (Some y) (Some z)) q
+    ∙ ap (λ (b : Bool). cond b (Some x) (Some y)) (sym e)
+all_there x y z false false e q =
+    ap (λ (b : Bool). cond b (Some y) (Some z)) q
+    ∙ ap (λ (b : Bool). cond b (Some x) (Some z))
+    (sym (lt-leb z.ticks.0 x.ticks.0 (omega (arith, leb-false y.ticks.0 x.ticks.0 e, leb-false z.ticks.0 y.ticks.0 q))))
 
-longest_of_three : (a b c : Measure) → longer (longer a b) c ≡ longer a (longer b c)
-longest_of_three Measure.Absent b c = refl
-longest_of_three (Measure.Present i x) Measure.Absent c = refl
-longest_of_three (Measure.Present i x) (Measure.Present j y) Measure.Absent = absent_last (longer (Measure.Present i x) (Measure.Present j y))
-longest_of_three (Measure.Present i x) (Measure.Present j y) (Measure.Present k z) =
-    all_present i j k x y z (leb y.0 x.0) (leb z.0 y.0) refl refl
+longest_of_three : (a b c : Option Measure) → longer (longer a b) c ≡ longer a (longer b c)
+longest_of_three None b c = refl
+longest_of_three (Some x) None c = refl
+longest_of_three (Some x) (Some y) None = absent_last (longer (Some x) (Some y))
+longest_of_three (Some x) (Some y) (Some z) = all_there x y z (leb y.ticks.0 x.ticks.0) (leb z.ticks.0 y.ticks.0) refl refl
 
 -- ---- what was found so far
 
@@ -58,11 +54,11 @@ either_of_three true b c = refl
 either_of_three false b c = refl
 
 -- one descriptor more, by whether it opens a break
-abbrev with_by : Bool → Signal → Descriptor → Signal
+abbrev with_by : Bool → Signal → Reading → Signal
 with_by t g d =
-    record { opened = g.opened || t; billed = longer g.billed (cond t (carried d) Measure.Absent); longest = longer g.longest (carried d) }
+    record { opened = g.opened || t; billed = longer g.billed (cond t (carried d) None); longest = longer g.longest (carried d) }
 
-module _ (g : Signal) (d : Descriptor) {m l : Measure} (is-measure : m ≡ carried d) (is-longest : l ≡ longer g.longest m) where
+module _ (g : Signal) (d : Reading) {m l : Option Measure} (is-measure : m ≡ carried d) (is-longest : l ≡ longer g.longest m) where
   longest_is : l ≡ longer g.longest (carried d)
   longest_is = is-longest ∙ ap (longer g.longest) is-measure
 
@@ -71,35 +67,35 @@ module _ (g : Signal) (d : Descriptor) {m l : Measure} (is-measure : m ≡ carri
       (λ i. record { opened = sym (either_none g.opened) i; billed = sym (absent_last g.billed) i; longest = longest_is i })
       ∙ ap (λ (t : Bool). with_by t g d) (sym e)
 
-  pub with_opening : {b : Measure} → opens d ≡ true → b ≡ longer g.billed m
+  pub with_opening : {b : Option Measure} → opens d ≡ true → b ≡ longer g.billed m
       → ◌≡◌ {A = Signal} (record { opened = true; billed = b; longest = l }) (with_one g d)
   with_opening e is-billed =
       (λ i. record { opened = sym (either_true g.opened) i; billed = (is-billed ∙ ap (longer g.billed) is-measure) i; longest = longest_is i })
       ∙ ap (λ (t : Bool). with_by t g d) (sym e)
 
 -- a descriptor that opens no break and carries no duration adds nothing
-pub with_idle : (g : Signal) (d : Descriptor) → opens d ≡ false → carried d ≡ Measure.Absent → with_one g d ≡ g
-with_idle g d e m = sym (with_other g d {m = Measure.Absent} {l = g.longest} (sym m) (sym (absent_last g.longest)) e)
+pub with_idle : (g : Signal) (d : Reading) → opens d ≡ false → carried d ≡ None → with_one g d ≡ g
+with_idle g d e m = sym (with_other g d {m = None} {l = g.longest} (sym m) (sym (absent_last g.longest)) e)
 
 -- what was found and what is left make the whole
-pub record Found (found : Signal) (left all : List Descriptor) : Type 0 where
+pub record Found (found : Signal) (left all : List Reading) : Type 0 where
   pub opened : (found.opened || some_opens left) ≡ some_opens all
   pub billed : longer found.billed (longest_by counted left) ≡ longest_by counted all
   pub longest : longer found.longest (longest_by carried left) ≡ longest_by carried all
 
 abbrev pub nothing : Signal
-nothing = record { opened = false; billed = Measure.Absent; longest = Measure.Absent }
+nothing = record { opened = false; billed = None; longest = None }
 
-pub nothing_yet : (all : List Descriptor) → Found nothing all all
+pub nothing_yet : (all : List Reading) → Found nothing all all
 nothing_yet all = record { opened = refl; billed = refl; longest = refl }
 
 -- one descriptor more
-one_longer : (f : Descriptor → Measure) (a : Measure) (d : Descriptor) (left all : List Descriptor)
+one_longer : (f : Reading → Option Measure) (a : Option Measure) (d : Reading) (left all : List Reading)
     → longer a (longest_by f (d ∷ left)) ≡ longest_by f all → longer (longer a (f d)) (longest_by f left) ≡ longest_by f all
 unfolding longest_by
 one_longer f a d left all h = longest_of_three a (f d) (longest_by f left) ∙ h
 
-pub one_more : (found : Signal) (d : Descriptor) (left all : List Descriptor) → Found found (d ∷ left) all → Found (with_one found d) left all
+pub one_more : (found : Signal) (d : Reading) (left all : List Reading) → Found found (d ∷ left) all → Found (with_one found d) left all
 unfolding some_opens
 one_more found d left all h =
     record {
@@ -108,7 +104,7 @@ one_more found d left all h =
       longest = one_longer carried found.longest d left all h.longest;
     }
 
-pub all_found : (found : Signal) (all : List Descriptor) → Found found [] all → found ≡ signal_of all
+pub all_found : (found : Signal) (all : List Reading) → Found found [] all → found ≡ signal_of all
 unfolding some_opens longest_by signal_of
 all_found found all h =
     let is_open : found.opened ≡ some_opens all = sym (either_none found.opened) ∙ h.opened in
@@ -119,62 +115,56 @@ all_found found all h =
 -- ---- which descriptor measures
 
 -- so many ticks, 0 where there are none
-abbrev pub ticks_in : Measure → ℕ
-ticks_in Measure.Absent = 0
-ticks_in (Measure.Present id t) = t.0
+abbrev pub ticks_in : Option Measure → ℕ
+ticks_in None = 0
+ticks_in (Some m) = m.ticks.0
 
 -- it is there, and of just so many ticks
-abbrev pub lasts : ℕ → Measure → Bool
-lasts n Measure.Absent = false
-lasts n (Measure.Present id t) = eqb t.0 n
+abbrev pub lasts : ℕ → Option Measure → Bool
+lasts n None = false
+lasts n (Some m) = eqb m.ticks.0 n
 
 -- the first that a descriptor gives of just so many ticks
-unfoldable pub first_of : (Descriptor → Measure) → ℕ → List Descriptor → Measure
-first_of f n [] = Measure.Absent
+unfoldable pub first_of : (Reading → Option Measure) → ℕ → List Reading → Option Measure
+first_of f n [] = None
 first_of f n (d ∷ ds) = cond (lasts n (f d)) (f d) (first_of f n ds)
 
 -- no descriptor gives more than so many ticks
-unfoldable pub NoneLonger : (Descriptor → Measure) → ℕ → List Descriptor → Type 0
+unfoldable pub NoneLonger : (Reading → Option Measure) → ℕ → List Reading → Type 0
 NoneLonger f n [] = Unit {0}
 NoneLonger f n (d ∷ ds) = (ticks_in (f d) ≤ n) × NoneLonger f n ds
 
 -- what was picked is one of the two, and no shorter than either
-picked : (a b : Measure) (rest : ℕ → Measure) → rest (ticks_in b) ≡ b
+picked : (a b : Option Measure) (rest : ℕ → Option Measure) → rest (ticks_in b) ≡ b
     → (cond (lasts (ticks_in (longer a b)) a) a (rest (ticks_in (longer a b))) ≡ longer a b)
     × (ticks_in a ≤ ticks_in (longer a b))
     × (ticks_in b ≤ ticks_in (longer a b))
-picked Measure.Absent b rest h = (h, omega arith, omega arith)
-picked (Measure.Present i x) Measure.Absent rest h = (rw (eq-eqb x.0 x.0 refl), omega arith, omega arith)
-picked (Measure.Present i x) (Measure.Present j y) rest h = by (leb y.0 x.0) refl
+picked None b rest h = (h, omega arith, omega arith)
+picked (Some x) None rest h = (rw (eq-eqb x.ticks.0 x.ticks.0 refl), omega arith, omega arith)
+picked (Some x) (Some y) rest h = by (leb y.ticks.0 x.ticks.0) refl
   where
-    a : Measure
-    a = Measure.Present i x
-
-    b : Measure
-    b = Measure.Present j y
-
-    by : (t : Bool) → leb y.0 x.0 ≡ t
-        → (cond (lasts (ticks_in (cond t a b)) a) a (rest (ticks_in (cond t a b))) ≡ cond t a b)
-        × (x.0 ≤ ticks_in (cond t a b))
-        × (y.0 ≤ ticks_in (cond t a b))
-    by true e = (rw (eq-eqb x.0 x.0 refl), omega arith, leb-true y.0 x.0 e)
+    by : (t : Bool) → leb y.ticks.0 x.ticks.0 ≡ t
+        → (cond (lasts (ticks_in (cond t (Some x) (Some y))) (Some x)) (Some x) (rest (ticks_in (cond t (Some x) (Some y)))) ≡ cond t (Some x) (Some y))
+        × (x.ticks.0 ≤ ticks_in (cond t (Some x) (Some y)))
+        × (y.ticks.0 ≤ ticks_in (cond t (Some x) (Some y)))
+    by true e = (rw (eq-eqb x.ticks.0 x.ticks.0 refl), omega arith, leb-true y.ticks.0 x.ticks.0 e)
     by false e =
-        let past : x.0 ≤ y.0 = omega (arith, leb-false y.0 x.0 e) in
-        (rw (ne_eqb x.0 y.0 (λ q. omega (arith, leb-false y.0 x.0 e))) h, past, omega arith)
+        let past : x.ticks.0 ≤ y.ticks.0 = omega (arith, leb-false y.ticks.0 x.ticks.0 e) in
+        (rw (ne_eqb x.ticks.0 y.ticks.0 (λ q. omega (arith, leb-false y.ticks.0 x.ticks.0 e))) h, past, omega arith)
 
 -- the longest is what the first descriptor of so many ticks gives
-pub first_longest : (f : Descriptor → Measure) (ds : List Descriptor) → first_of f (ticks_in (longest_by f ds)) ds ≡ longest_by f ds
+pub first_longest : (f : Reading → Option Measure) (ds : List Reading) → first_of f (ticks_in (longest_by f ds)) ds ≡ longest_by f ds
 unfolding longest_by first_of
 first_longest f [] = refl
 first_longest f (d ∷ ds) = (picked (f d) (longest_by f ds) (λ n. first_of f n ds) (first_longest f ds)).0
 
 -- and none gives more
-none_above : (f : Descriptor → Measure) (ds : List Descriptor) (m n : ℕ) → m ≤ n → NoneLonger f m ds → NoneLonger f n ds
+none_above : (f : Reading → Option Measure) (ds : List Reading) (m n : ℕ) → m ≤ n → NoneLonger f m ds → NoneLonger f n ds
 unfolding NoneLonger
 none_above f [] m n h a = tt
 none_above f (d ∷ ds) m n h a = (omega (arith, a.0, h), none_above f ds m n h a.1)
 
-pub none_longer : (f : Descriptor → Measure) (ds : List Descriptor) → NoneLonger f (ticks_in (longest_by f ds)) ds
+pub none_longer : (f : Reading → Option Measure) (ds : List Reading) → NoneLonger f (ticks_in (longest_by f ds)) ds
 unfolding longest_by NoneLonger
 none_longer f [] = tt
 none_longer f (d ∷ ds) =

@@ -8,9 +8,11 @@ use Prim.Native.Nat.{ℕ, ◌+◌, ◌-◌, ◌*◌, ◌<◌}
 use lib.ListN.{length, get_or}
 use lib.Dec.{eqb}
 use borrow.Author.Tests.{le-leb, eqb-true, eqb-false}
+use Rattle.std.specs.Prelude.{Result, Ok, None}
 use Rattle.bits.specs.Bits.{bit, num, field_of, flag_of}
 use Rattle.bits.proofs.Cases.{by_cases}
 use Rattle.units.specs.declared.clock.EventId.{EventId}
+use Rattle.units.specs.declared.refusals.Refusal.{Refusal}
 use Rattle.grammar.specs.Meaning.{broken, reached, read}
 use Rattle.grammar.specs.Tables.{sized_command}
 use Rattle.grammar.proofs.Places.{octet}
@@ -21,7 +23,6 @@ use Rattle.command_reading.specs.declared.answers.Command.{Command}
 use Rattle.command_reading.specs.Command.{command_reading, command}
 use Rattle.command_reading.specs.Places.{time_at, insert_at}
 use Rattle.command_reading.proofs.Said.{null, schedule, insert, signal, reservation, private_one, unread}
-use Rattle.descriptor_reading.specs.declared.answers.Descriptor.{Descriptor}
 use Rattle.descriptors.specs.declared.Cursor.{Cursor}
 use Rattle.descriptors.proofs.Filled.{Filled}
 use Rattle.section.proofs.Accepted.{Allowed, accepted, has_trace}
@@ -29,7 +30,7 @@ use Rattle.opening.specs.First.{first_cursor}
 use Rattle.opening.proofs.First.{Laid, first_trace}
 use Rattle.opening.proofs.Asked.{IsOpen}
 use Rattle.breaks.specs.declared.Break.{Break}
-use Rattle.breaks.specs.declared.dash.DashDuration.{DashDuration}
+use Rattle.breaks.specs.Signals.{Reading}
 use Rattle.breaks.specs.Breaks.{break_by}
 use Rattle.breaks.specs.Dash.{dash_by}
 
@@ -38,11 +39,11 @@ equal_or_not : {A : Type 0} (v k : ℕ) → (v ≡ k → A) → ((v ≡ k → �
 equal_or_not v k f g = ⊎_elim (λ e. f (eqb-true v k e)) (λ e. g (eqb-false v k e)) (by_cases (eqb v k))
 
 -- an insert has no DASH duration, cancelled or not
-insert_undashed : (s : List ℕ) (end : ℕ) (ds : List Descriptor) → DashDuration.None ≡ dash_by (insert_at s end) ds
+insert_undashed : (s : List ℕ) (end : ℕ) (ds : List Reading) → Ok None ≡ dash_by (Ok (insert_at s end)) ds
 unfolding insert_at
 insert_undashed s end ds = go (flag_of s 144) _ _
   where
-    go : (b : Bool) (id : EventId) (i : Insert) → DashDuration.None ≡ dash_by (cond b (Command.CancelledInsert id) (Command.Insert i)) ds
+    go : (b : Bool) (id : EventId) (i : Insert) → Ok None ≡ dash_by (Ok (cond b (Command.CancelledInsert id) (Command.Insert i))) ds
     go true id i = refl
     go false id i = refl
 
@@ -83,41 +84,41 @@ module _ (s : List ℕ) (c : Cursor) (o : IsOpen s c) where
     not_type : (v : ℕ) → (get_or s 13 0 ≡ v → ⊥) → num (bit s) 104 8 ≡ v → ⊥
     not_type v h e = h (sym type_is ∙ e)
 
-    pub insert_is : get_or s 13 0 ≡ 0x05 → command s ≡ insert_at s stop
+    pub insert_is : get_or s 13 0 ≡ 0x05 → command s ≡ Ok (insert_at s stop)
     insert_is e = insert s stop rows command_read (type_is ∙ e)
 
-    pub signal_is : get_or s 13 0 ≡ 0x06 → command s ≡ Command.TimeSignal (time_at s 14)
+    pub signal_is : get_or s 13 0 ≡ 0x06 → command s ≡ Ok (Command.TimeSignal (time_at s 14))
     signal_is e = signal s stop rows command_read (type_is ∙ e)
 
-    null_is : get_or s 13 0 ≡ 0x00 → command s ≡ Command.Null
+    null_is : get_or s 13 0 ≡ 0x00 → command s ≡ Ok Command.Null
     null_is e = null s stop rows command_read (type_is ∙ e)
 
-    schedule_is : get_or s 13 0 ≡ 0x04 → command s ≡ Command.Schedule (num (bit s) 112 8)
+    schedule_is : get_or s 13 0 ≡ 0x04 → command s ≡ Ok (Command.Schedule (num (bit s) 112 8))
     schedule_is e = schedule s stop rows command_read (type_is ∙ e)
 
-    reservation_is : get_or s 13 0 ≡ 0x07 → command s ≡ Command.BandwidthReservation
+    reservation_is : get_or s 13 0 ≡ 0x07 → command s ≡ Ok Command.BandwidthReservation
     reservation_is e = reservation s stop rows command_read (type_is ∙ e)
 
-    private_is : get_or s 13 0 ≡ 0xFF → command s ≡ Command.Private (field_of s 112 32) (stop - 18)
+    private_is : get_or s 13 0 ≡ 0xFF → command s ≡ Ok (Command.Private (field_of s 112 32) (stop - 18))
     private_is e = private_one s stop rows command_read (type_is ∙ e)
 
     pub unread_is : (get_or s 13 0 ≡ 0x00 → ⊥) → (get_or s 13 0 ≡ 0x04 → ⊥) → (get_or s 13 0 ≡ 0x05 → ⊥) → (get_or s 13 0 ≡ 0x06 → ⊥)
-        → (get_or s 13 0 ≡ 0x07 → ⊥) → (get_or s 13 0 ≡ 0xFF → ⊥) → command s ≡ Command.Unread
+        → (get_or s 13 0 ≡ 0x07 → ⊥) → (get_or s 13 0 ≡ 0xFF → ⊥) → command s ≡ Ok Command.Unread
     unread_is h0 h4 h5 h6 h7 hF =
         unread s stop rows command_read (not_type 0x00 h0) (not_type 0x04 h4) (not_type 0x05 h5) (not_type 0x06 h6) (not_type 0x07 h7) (not_type 0xFF hF)
 
     -- four of the types open no break
     pub unbroken : (get_or s 13 0 ≡ 0x00) ⊎ ((get_or s 13 0 ≡ 0x04) ⊎ ((get_or s 13 0 ≡ 0x07) ⊎ (get_or s 13 0 ≡ 0xFF)))
-        → (ds : List Descriptor) → Break.None ≡ break_by (command s) ds
+        → (ds : List Reading) → Ok Break.None ≡ break_by (command s) ds
     unbroken w ds =
-        let says : (k : Command) → command s ≡ k → break_by k ds ≡ break_by (command s) ds = λ k e. ap (λ (x : Command). break_by x ds) (sym e) in
+        let says : (k : Result Command Refusal) → command s ≡ k → break_by k ds ≡ break_by (command s) ds = λ k e. ap (λ (x : Result Command Refusal). break_by x ds) (sym e) in
         ⊎_elim (λ e. says _ (null_is e))
         (⊎_elim (λ e. says _ (schedule_is e)) (⊎_elim (λ e. says _ (reservation_is e)) (λ e. says _ (private_is e)))) w
 
     -- all types but one have no DASH duration
-    pub undashed : (get_or s 13 0 ≡ 0x06 → ⊥) → (ds : List Descriptor) → DashDuration.None ≡ dash_by (command s) ds
+    pub undashed : (get_or s 13 0 ≡ 0x06 → ⊥) → (ds : List Reading) → Ok None ≡ dash_by (command s) ds
     undashed h6 ds =
-        let says : (k : Command) → command s ≡ k → dash_by k ds ≡ dash_by (command s) ds = λ k e. ap (λ (x : Command). dash_by x ds) (sym e) in
+        let says : (k : Result Command Refusal) → command s ≡ k → dash_by k ds ≡ dash_by (command s) ds = λ k e. ap (λ (x : Result Command Refusal). dash_by x ds) (sym e) in
         equal_or_not (get_or s 13 0) 0x00 (λ e. says _ (null_is e))
         (λ h0. equal_or_not (get_or s 13 0) 0x04 (λ e. says _ (schedule_is e))
         (λ h4. equal_or_not (get_or s 13 0) 0x05 (λ e. insert_undashed s stop ds ∙ says _ (insert_is e))

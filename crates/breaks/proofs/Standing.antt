@@ -8,6 +8,7 @@ use Prim.Native.Nat.{ℕ, ◌+◌, ◌*◌, ◌≤◌}
 use native.Mathlib.Omega.{arith}
 use lib.ListN.{length}
 use borrow.Author.Tests.{not-true, not-false}
+use Rattle.std.specs.Prelude.{Option, None, Ok}
 use Rattle.bits.specs.Bits.{field_of, flag_of}
 use Rattle.units.specs.Clock.{event_id}
 use Rattle.descriptors.specs.declared.Cursor.{Cursor}
@@ -25,13 +26,13 @@ use Rattle.descriptor_reading.proofs.Tags.{tag_of, tag_is}
 use Rattle.descriptor_reading.proofs.Told.{descriptor_told}
 use Rattle.breaks.specs.declared.signal.Measure.{Measure}
 use Rattle.breaks.specs.declared.signal.Signal.{Signal}
-use Rattle.breaks.specs.Signals.{opens, measure_of, carried, longer, is_segmentation, uncancelled, opens_at, with_one}
+use Rattle.breaks.specs.Signals.{Reading, opens, measure_of, carried, longer, is_segmentation, uncancelled, opens_at, with_one}
 use Rattle.breaks.proofs.Left.{left, known_left, unknown_left}
 use Rattle.breaks.proofs.Longest.{Found, one_more, with_other, with_opening, with_idle}
 
 -- a descriptor that opens no break and carries no duration
-abbrev Idle : Descriptor → Type 0
-Idle d = (opens d ≡ false) × (carried d ≡ Measure.Absent)
+abbrev Idle : Reading → Type 0
+Idle d = (opens d ≡ false) × (carried d ≡ None)
 
 -- ---- by the place
 
@@ -52,7 +53,7 @@ module _ (s : List ℕ) (at : ℕ) where
       ap (λ (x : Bool). cond x (Descriptor.CancelledSegmentation (event_id (field_of s (8 * (at + 6)) 32))) (Descriptor.Segmentation (uncancelled_at s (at + 6) stop)))
       (ap (flag_of s) cancel_place ∙ e)
 
-  segmentation_there : tag_at s at ≡ 2 → descriptor_at s at ≡ segmentation_at s (at + 6) stop
+  segmentation_there : tag_at s at ≡ 2 → descriptor_at s at ≡ Ok (segmentation_at s (at + 6) stop)
   unfolding descriptor_at
   segmentation_there e = rw e
 
@@ -63,7 +64,7 @@ module _ (s : List ℕ) (at : ℕ) where
   idle Kind.Time e h = rw e (refl, refl)
   idle Kind.Audio e h = rw e (refl, refl)
   idle Kind.Unknown e h = rw e (refl, refl)
-  idle Kind.Segmentation e h = subst Idle (sym (segmentation_there e ∙ by_cancel true (not-false _ h))) (refl, refl)
+  idle Kind.Segmentation e h = subst Idle (sym (segmentation_there e ∙ ap Ok (by_cancel true (not-false _ h)))) (refl, refl)
 
 -- ---- in the loop
 
@@ -76,27 +77,27 @@ module _ (s : List ℕ) (c : Cursor) (fits : length s ≤ 4096) (here : Going s 
     tag = tag_is s c.at (trace_at s c) (stands s c _ _ fits here.steps known)
 
     first : left s c ≡ descriptor_at s c.at ∷ left s (following s c)
-    first = known_left s c _ _ here.steps known ∙ ap (λ (d : Descriptor). d ∷ left s (following s c)) told
+    first = known_left s c _ _ here.steps known ∙ ap (λ (d : Reading). d ∷ left s (following s c)) told
 
   -- a descriptor that is not asked is passed by
-  pub passed : (g : Signal) (all : List Descriptor) → uncancelled s c.at ≡ false → Found g (left s c) all → Found g (left s (following s c)) all
+  pub passed : (g : Signal) (all : List Reading) → uncancelled s c.at ≡ false → Found g (left s c) all → Found g (left s (following s c)) all
   passed g all h found = go (is_known (kind_of s c.at)) refl
     where
       go : (b : Bool) → is_known (kind_of s c.at) ≡ b → Found g (left s (following s c)) all
-      go false e = subst (λ (ds : List Descriptor). Found g ds all) (unknown_left s c _ _ here.steps e) found
+      go false e = subst (λ (ds : List Reading). Found g ds all) (unknown_left s c _ _ here.steps e) found
       go true e =
           let d = descriptor_at s c.at in
           let none = idle s c.at (kind_of s c.at) (tag e) h in
           subst (λ (x : Signal). Found x (left s (following s c)) all) (with_idle g d none.0 none.1)
-          (one_more g d (left s (following s c)) all (subst (λ (ds : List Descriptor). Found g ds all) (first e) found))
+          (one_more g d (left s (following s c)) all (subst (λ (ds : List Reading). Found g ds all) (first e) found))
 
   -- and one that is asked stands by its parts
   pub asked_first : uncancelled s c.at ≡ true
-      → left s c ≡ Descriptor.Segmentation (uncancelled_at s (c.at + 6) (stop s c.at)) ∷ left s (following s c)
+      → left s c ≡ Ok (Descriptor.Segmentation (uncancelled_at s (c.at + 6) (stop s c.at))) ∷ left s (following s c)
   asked_first h = go (kind_of s c.at) refl h
     where
       go : (k : Kind) → kind_of s c.at ≡ k → (is_segmentation k && not (flag_of s (8 * (c.at + 10)))) ≡ true
-          → left s c ≡ Descriptor.Segmentation (uncancelled_at s (c.at + 6) (stop s c.at)) ∷ left s (following s c)
+          → left s c ≡ Ok (Descriptor.Segmentation (uncancelled_at s (c.at + 6) (stop s c.at))) ∷ left s (following s c)
       go Kind.Avail e q = absurd (false≢true q)
       go Kind.Dtmf e q = absurd (false≢true q)
       go Kind.Time e q = absurd (false≢true q)
@@ -105,22 +106,22 @@ module _ (s : List ℕ) (c : Cursor) (fits : length s ≤ 4096) (here : Going s 
       go Kind.Segmentation e q =
           let known : is_known (kind_of s c.at) ≡ true = ap is_known e in
           first known
-          ∙ ap (λ (d : Descriptor). d ∷ left s (following s c))
-          (segmentation_there s c.at (tag known ∙ ap tag_of e) ∙ by_cancel s c.at false (not-true _ q))
+          ∙ ap (λ (d : Reading). d ∷ left s (following s c)) (segmentation_there s c.at (tag known ∙ ap tag_of e))
+          ∙ ap (λ (d : Descriptor). Ok d ∷ left s (following s c)) (by_cancel s c.at false (not-true _ q))
 
   -- what was found with it
-  module _ (h : uncancelled s c.at ≡ true) (g : Signal) (all : List Descriptor) (found : Found g (left s c) all) {m l : Measure}
+  module _ (h : uncancelled s c.at ≡ true) (g : Signal) (all : List Reading) (found : Found g (left s c) all) {m l : Option Measure}
       (is-measure : m ≡ measure_of (event_id (field_of s (8 * (c.at + 6)) 32)) (duration_at s (c.at + 6))) (is-longest : l ≡ longer g.longest m) where
-    here_stands : Descriptor
-    here_stands = Descriptor.Segmentation (uncancelled_at s (c.at + 6) (stop s c.at))
+    here_stands : Reading
+    here_stands = Ok (Descriptor.Segmentation (uncancelled_at s (c.at + 6) (stop s c.at)))
 
     more : Found (with_one g here_stands) (left s (following s c)) all
     unfolding here_stands
     more =
-        one_more g (Descriptor.Segmentation (uncancelled_at s (c.at + 6) (stop s c.at))) (left s (following s c)) all
-        (subst (λ (ds : List Descriptor). Found g ds all) (asked_first h) found)
+        one_more g (Ok (Descriptor.Segmentation (uncancelled_at s (c.at + 6) (stop s c.at)))) (left s (following s c)) all
+        (subst (λ (ds : List Reading). Found g ds all) (asked_first h) found)
 
-    pub with_break : {b : Measure} → opens_at s (c.at + 6) ≡ true → b ≡ longer g.billed m
+    pub with_break : {b : Option Measure} → opens_at s (c.at + 6) ≡ true → b ≡ longer g.billed m
         → Found (record { opened = true; billed = b; longest = l }) (left s (following s c)) all
     unfolding here_stands uncancelled_at
     with_break {b} e is-billed =

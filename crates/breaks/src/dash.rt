@@ -7,47 +7,32 @@ ghost use Rattle.breaks.specs.Dash.{dash_of, dash_by, dash_duration};
 
 use crate::signal::{Measure, walk};
 use descriptors::Cursor;
-use opening::Opened;
 use units::{Refusal, Ticks};
 
-// The longest duration of a time signal's descriptors, or that there is none.
-#[derive(Clone, Copy)]
-pub enum DashDuration {
-    None,
-    Measured(Ticks),
-    Refused(Refusal),
-}
-
-// How long the DASH event of the section lasts.
-pub fn dash_duration(section: &[u8]) -> DashDuration
+// How long the DASH event of the section lasts: the longest duration of a time signal's descriptors, if there is one.
+pub fn dash_duration(section: &[u8]) -> Result<Option<Ticks>, Refusal>
     ensures { result ≡ dash_duration section.now }
 {
-    match opening::open(section) {
-        Opened::Open(cursor) => open_dash(section, cursor),
-        Opened::Refused(refusal) => DashDuration::Refused(refusal),
-    }
+    let cursor = opening::open(section)?;
+    Ok(open_dash(section, cursor))
 }
 
 // That of an open section: only a time signal has one.
-fn open_dash(s: &[u8], cursor: Cursor) -> DashDuration
+fn open_dash(s: &[u8], cursor: Cursor) -> Option<Ticks>
     requires { IsOpen s.now cursor }
-    ensures { result ≡ dash_by (command_says.command s.now) (known_readings s.now cursor) }
+    ensures { Ok result ≡ dash_by (command_says.command s.now) (known_readings s.now cursor) }
 {
     // splice_command_type
     if s[13] != 0x06 {
-        return DashDuration::None;
+        return None;
     }
     let signal = walk(s, cursor);
-    let longest = signal.longest;
-    lasting(longest)
+    lasting(signal.longest)
 }
 
 // One of 0 ticks is a duration.
-fn lasting(longest: Measure) -> DashDuration
+fn lasting(longest: Option<Measure>) -> Option<Ticks>
     ensures { result ≡ dash_of longest }
 {
-    match longest {
-        Measure::Absent => DashDuration::None,
-        Measure::Present(_, ticks) => DashDuration::Measured(ticks),
-    }
+    longest.map(|measure| measure.ticks)
 }

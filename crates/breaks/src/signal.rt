@@ -10,14 +10,13 @@ ghost use Rattle.breaks.specs.Signals.{break_types, uncancelled, opens_at, measu
 
 use crate::Break;
 use descriptors::{Cursor, Kind};
-use segmentation_reading::Duration;
 use units::{EventId, Ticks};
 
 // A duration, and the event whose descriptor carries it.
 #[derive(Clone, Copy)]
-pub enum Measure {
-    Absent,
-    Present(EventId, Ticks),
+pub struct Measure {
+    pub event: EventId,
+    pub ticks: Ticks,
 }
 
 // What a time signal says by its descriptors.
@@ -25,9 +24,9 @@ pub enum Measure {
 pub struct Signal {
     pub opened: bool,
     // The longest of those that open a break; of two as long the first.
-    pub billed: Measure,
+    pub billed: Option<Measure>,
     // The longest of all.
-    pub longest: Measure,
+    pub longest: Option<Measure>,
 }
 
 // What the known descriptors from a cursor on say, where descriptors fill the loop.
@@ -36,8 +35,8 @@ pub(crate) fn walk(s: &[u8], cursor: Cursor) -> Signal
     ensures { result ≡ signal_of (known_readings s.now cursor) }
 {
     let mut opened = false;
-    let mut billed = Measure::Absent;
-    let mut longest = Measure::Absent;
+    let mut billed = None;
+    let mut longest = None;
     let mut at = cursor.at;
     while at < cursor.end {
         if is_uncancelled(s, at) {
@@ -66,10 +65,9 @@ impl Signal {
         if !self.opened {
             return Break::None;
         }
-        let measure = self.billed;
-        match measure {
-            Measure::Absent => Break::Unmeasured,
-            Measure::Present(_, ticks) => Break::Measured(ticks),
+        match self.billed {
+            None => Break::Unmeasured,
+            Some(measure) => Break::Measured(measure.ticks),
         }
     }
 }
@@ -79,11 +77,8 @@ fn is_uncancelled(s: &[u8], at: usize) -> bool
     requires { at ≤ 4096 }
     ensures { result ≡ uncancelled s.now at }
 {
-    let Kind::Segmentation = descriptors::kind_of(s, at) else {
-        return false;
-    };
     // segmentation_event_cancel_indicator
-    !bits::flag(s, 8 * (at + 10))
+    descriptors::kind_of(s, at) == Kind::Segmentation && !bits::flag(s, 8 * (at + 10))
 }
 
 // Whether it opens a break, by the byte after its identifier.
@@ -97,31 +92,27 @@ fn opens(s: &[u8], at: u16) -> bool
 fn opens_break(segmentation_type_id: u8) -> bool
     ensures { result ≡ is_among segmentation_type_id break_types }
 {
-    match segmentation_type_id {
-        0x22 | 0x30 | 0x32 | 0x34 | 0x36 => true,
-        _ => false,
-    }
+    matches!(segmentation_type_id, 0x22 | 0x30 | 0x32 | 0x34 | 0x36)
 }
 
 // The duration that it carries.
-fn carried(s: &[u8], at: u16) -> Measure
+fn carried(s: &[u8], at: u16) -> Option<Measure>
     ensures { result ≡ measure_of (event_id (field_of s.now (8 * at) 32)) (duration_at s.now at) }
 {
-    let Duration::Present(ticks) = segmentation_reading::duration(s, at) else {
-        return Measure::Absent;
-    };
-    Measure::Present(EventId(bits::quad(s, at as usize) as u32), ticks)
+    let ticks = segmentation_reading::duration(s, at)?;
+    let event = EventId(bits::quad(s, at as usize) as u32);
+    Some(Measure { event, ticks })
 }
 
 // The longer of two, and of two as long the first.
-fn longer(a: Measure, b: Measure) -> Measure
+fn longer(a: Option<Measure>, b: Option<Measure>) -> Option<Measure>
     ensures { result ≡ longer a b }
 {
-    let Measure::Present(_, x) = a else {
+    let Some(x) = a else {
         return b;
     };
-    let Measure::Present(_, y) = b else {
+    let Some(y) = b else {
         return a;
     };
-    if y.0 <= x.0 { a } else { b }
+    if y.ticks <= x.ticks { a } else { b }
 }

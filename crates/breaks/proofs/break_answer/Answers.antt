@@ -6,18 +6,12 @@ use Rattle.breaks.specs.Breaks.{break_answer}
 use Rattle.breaks.proofs.break_answer.Goals as goal
 
 pub open_break-requires : goal.open_break-requires
-open_break-requires c =
-    let s = c.args.section.now in
-    is_open s _ (sym c.«open».ensures ∙ c.in-Open.is)
+open_break-requires c = is_open c.args.section.now _ (sym c.in-Ok.ensures)
 
-pub returns-in-Open : goal.returns-in-Open
+pub returns-in-Ok : goal.returns-in-Ok
 unfolding break_answer
-returns-in-Open c =
-    c.open_break.ensures
-    ∙ sym (when_open _ _ _ (sym c.«open».ensures ∙ c.in-Open.is))
+returns-in-Ok c = c.open_break.ensures ∙ sym (when_open _ _ _ (sym c.in-Ok.ensures))
 
-pub returns-in-Refused : goal.returns-in-Refused
+pub returns-in-Err : goal.returns-in-Err
 unfolding break_answer
-returns-in-Refused c =
-    c.refused_break.ensures
-    ∙ sym (when_refused _ _ _ (sym c.«open».ensures ∙ c.in-Refused.is))
+returns-in-Err c = c.refused_break.ensures ∙ sym (when_refused _ _ _ (sym c.in-Err.ensures))

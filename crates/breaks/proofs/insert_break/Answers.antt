@@ -3,6 +3,7 @@
 use mathlib.Core.Path.{◌≡◌, sym, ap, ◌∙◌}
 use mathlib.Core.Bool.{true, false}
 use Prim.Native.Nat.{ℕ}
+use Rattle.std.specs.Prelude.{Ok}
 use Rattle.bits.specs.Bits.{flag_of}
 use Rattle.units.specs.Clock.{ticks}
 use Rattle.command_reading.specs.Places.{break_at, avails_at, insert_at}
@@ -32,4 +33,4 @@ returns c ds =
     let kept : flag_of c.args.s.now 144 ≡ false = sym c.flag.ensures ∙ c.if-flag.false in
     let out : flag_of c.args.s.now 152 ≡ true = sym c.flag-2.ensures ∙ c.if-not-flag.false in
     rw (kept, out, sym c.flag-3.ensures ∙ c.if-not-flag-2.false)
-    (ap (λ (n : ℕ). Break.Measured (ticks n)) c.read.ensures)
+    (ap (λ (n : ℕ). Ok (Break.Measured (ticks n))) c.read.ensures)

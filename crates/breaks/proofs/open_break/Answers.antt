@@ -2,9 +2,11 @@
 -- Assumes nothing.
 use mathlib.Core.Path.{◌≡◌, sym, ap, ◌∙◌}
 use mathlib.Core.Logic.{inl, inr}
-use Prim.Native.Nat.{◌-◌, ◌≤◌, ◌<◌}
+use Rattle.std.specs.Prelude.{Result, Ok}
+use Prim.Native.Nat.{ℕ, ◌-◌, ◌≤◌, ◌<◌}
 use native.Mathlib.Omega.{arith}
 use lib.ListN.{length, get_or}
+use Rattle.units.specs.declared.refusals.Refusal.{Refusal}
 use Rattle.command_reading.specs.declared.answers.Command.{Command}
 use Rattle.command_reading.specs.Places.{insert_at}
 use Rattle.command_reading.proofs.Said.{bounds}
@@ -57,8 +59,8 @@ returns-in-5 c =
     let s = a.s.now in
     let ds = known_readings s a.cursor in
     c.insert_break.ensures ds
-    ∙ ap (λ (k : Command). break_by k ds)
-    (ap (insert_at s) (ends_at).3 ∙ sym (insert_is s a.cursor c.requires (type-byte) c.in-5.is))
+    ∙ ap (λ (k : Result Command Refusal). break_by k ds)
+    (ap (λ (end : ℕ). Ok (insert_at s end)) (ends_at).3 ∙ sym (insert_is s a.cursor c.requires (type-byte) c.in-5.is))
 
 pub returns-in-6 : goal.returns-in-6
 unfolding signal_break
@@ -66,8 +68,8 @@ returns-in-6 c =
     let type-byte : get_or c.args.s.now 13 0 < 256 = (c.type_inv.s 13).fits in
     let a = c.args in
     let ds = known_readings a.s.now a.cursor in
-    c.opening.ensures ∙ ap break_of c.walk.ensures
-    ∙ ap (λ (k : Command). break_by k ds) (sym (signal_is a.s.now a.cursor c.requires (type-byte) c.in-6.is))
+    ap Ok (c.opening.ensures ∙ ap break_of c.walk.ensures)
+    ∙ ap (λ (k : Result Command Refusal). break_by k ds) (sym (signal_is a.s.now a.cursor c.requires (type-byte) c.in-6.is))
 
 pub returns-in-0 : goal.returns-in-0
 returns-in-0 c =
@@ -81,6 +83,6 @@ returns-in_default c =
     let a = c.args in
     let ds = known_readings a.s.now a.cursor in
     let no = c.in_default.in_default-own.rest in
-    ap (λ (k : Command). break_by k ds)
+    ap (λ (k : Result Command Refusal). break_by k ds)
     (sym (unread_is a.s.now a.cursor c.requires (type-byte)
     (λ e. no.1 (inl e)) (λ e. no.1 (inr (inl e))) no.0.0.1 no.0.1 (λ e. no.1 (inr (inr (inl e)))) (λ e. no.1 (inr (inr (inr e))))))

@@ -1,7 +1,9 @@
 -- `breaks::dash::open_dash` meets its contract, by splice_command_type.
 -- Assumes nothing.
 use mathlib.Core.Path.{sym, ap, ◌∙◌}
+use Rattle.std.specs.Prelude.{Result, Ok}
 use native.Mathlib.Omega.{arith}
+use Rattle.units.specs.declared.refusals.Refusal.{Refusal}
 use Rattle.command_reading.specs.declared.answers.Command.{Command}
 use Rattle.breaks.specs.declared.signal.Signal.{Signal}
 use Rattle.breaks.specs.Signals.{known_readings}
@@ -28,6 +30,5 @@ pub returns : goal.returns
 returns c =
     let a = c.args in
     let ds = known_readings a.s.now a.cursor in
-    c.lasting.ensures
-    ∙ ap (λ (g : Signal). dash_of g.longest) c.walk-signal.ensures
-    ∙ ap (λ (k : Command). dash_by k ds) (sym (signal_is a.s.now a.cursor c.requires (c.type_inv.s 13).fits c.if-s-ne6.false))
+    ap Ok (c.lasting.ensures ∙ ap (λ (g : Signal). dash_of g.longest) c.walk-signal.ensures)
+    ∙ ap (λ (k : Result Command Refusal). dash_by k ds) (sym (signal_is a.s.now a.cursor c.requires (c.type_inv.s 13).fits c.if-s-ne6.false))

@@ -8,9 +8,8 @@ use native.Mathlib.Omega.{arith}
 use Rattle.descriptors.specs.declared.Cursor.{Cursor}
 use Rattle.descriptors.proofs.Filled.{following, Going, going}
 use Rattle.descriptors.proofs.Walk.{nothing_left}
-use Rattle.descriptor_reading.specs.declared.answers.Descriptor.{Descriptor}
 use Rattle.breaks.specs.declared.signal.Signal.{Signal}
-use Rattle.breaks.specs.Signals.{known_readings}
+use Rattle.breaks.specs.Signals.{Reading, known_readings}
 use Rattle.breaks.proofs.Left.{left, all_left, done_left}
 use Rattle.breaks.proofs.Longest.{Found, nothing, nothing_yet, all_found}
 use Rattle.breaks.proofs.Standing.{passed, with_break, without_break}
@@ -22,7 +21,7 @@ loop-at-init c =
     let a = c.args in
     let pre = c.requires in
     let all = known_readings a.s.now a.cursor in
-    (pre.0, pre.1, subst (λ (ds : List Descriptor). Found nothing ds all) (sym (all_left a.s.now a.cursor pre.0)) (nothing_yet all))
+    (pre.0, pre.1, subst (λ (ds : List Reading). Found nothing ds all) (sym (all_left a.s.now a.cursor pre.0)) (nothing_yet all))
 
 pub is_uncancelled-requires : goal.is_uncancelled-requires
 is_uncancelled-requires c =
@@ -117,4 +116,4 @@ returns c =
     let all = known_readings s a.cursor in
     let none = done_left s (record { at = c.loop-at.at; end = a.cursor.end }) (nothing_left s _ c.loop-at-test.false) in
     let g : Signal = record { opened = c.loop-at.opened; billed = c.loop-at.billed; longest = c.loop-at.longest } in
-    all_found g all (subst (λ (ds : List Descriptor). Found g ds all) none c.loop-at.invariant.2)
+    all_found g all (subst (λ (ds : List Reading). Found g ds all) none c.loop-at.invariant.2)
