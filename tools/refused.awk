@@ -25,9 +25,11 @@ kind == "source" {
         sub(/[^a-z0-9_].*/, "", inside)
         inside = module type inside
         part = "contract"
-    } else if (/^impl /)
-        type = $2 "::"
-    else if ($0 == "}" && inside == "")
+    } else if (/^impl /) {
+        type = $2
+        sub(/<.*/, "", type)
+        type = type "::"
+    } else if ($0 == "}" && inside == "")
         type = ""
     line[path, FNR] = $0
     lines[path] = FNR

@@ -2,9 +2,9 @@
 // bits or, where there is a sheet, from the sheet's numbers.
 #![tactic(auto)]
 
-ghost use Rattle.std.specs.Prelude.{◌≡◌};
-ghost use Rattle.fields.specs.Fields;
-ghost use Rattle.fields.specs.Fields.{source, plan, laid, times_on, bytes_to, roomy, kept, Room};
+ghost use Rattle.std.specs.Prelude.{◌≡◌, ◌+◌, ◌*◌, ◌≤◌, length};
+ghost use Rattle.fields.specs.Fields as defined;
+ghost use Rattle.fields.specs.Fields.{plan, laid, times_on, bytes_to, roomy};
 
 use units::MOST_FIELDS;
 
@@ -15,22 +15,33 @@ pub struct Place {
     pub number: usize,
 }
 
-// The number of the field of `width` bits that stands at bit `at` and is the sheet's number `number`.
-pub fn value(section: &[u8], sheet: &[u64], at: usize, number: usize, width: usize) -> u64
-    ensures { result ≡ source section.now sheet.now at number width }
-{
-    if sheet.len() == 0 {
-        return bits::read(section, at, width);
+// What the fields hold: a section's bits or, where there is a sheet, the sheet's numbers.
+#[derive(Clone, Copy)]
+pub struct Numbers<'a> {
+    pub section: &'a [u8],
+    pub sheet: &'a [u64],
+}
+
+impl Numbers<'_> {
+    ghost use Rattle.fields.specs.SoFar.{given};
+
+    // The number of the field of `width` bits that stands at bit `at` and is the sheet's number `number`.
+    pub fn value(self, at: usize, number: usize, width: usize) -> u64
+        ensures { result ≡ given self.entry at number width }
+    {
+        if self.sheet.is_empty() {
+            return bits::read(self.section, at, width);
+        }
+        if number < self.sheet.len() {
+            return held(self.sheet[number], width);
+        }
+        0
     }
-    if number < sheet.len() {
-        return held(sheet[number], width);
-    }
-    0
 }
 
 // The number, where so many bits hold it.
 fn held(x: u64, width: usize) -> u64
-    ensures { result ≡ Fields.held x width }
+    ensures { result ≡ defined.held x width }
 {
     if 64 <= width {
         return x;
@@ -52,58 +63,59 @@ pub fn has_room(widths: &[u8], p: Place) -> bool
     p.at <= 104 + 255 * p.number
 }
 
-// Fields of these widths, where the memory has room for them all.
-pub fn group(widths: &mut [u8], p: Place, more: &[u8]) -> Place
-    ensures { plan result widths.new ≡ kept (laid more.now) (plan p widths.old) }
-{
-    if has_room(widths, p) {
-        lay(widths, p, more)
-    } else {
-        p
-    }
+// The fields so far: the bit after them, how many they are, and their widths at the front of lent memory, which has room for them.
+#[derive(Drop)]
+pub struct Fields<'a> {
+    pub widths: &'a mut [u8],
+    pub at: usize,
+    pub number: usize,
+    ghost fits: { number ≤ length widths.now },
+    ghost reached: { at ≤ 104 + 255 * number },
+    ghost short: { length widths.now ≤ 32768 },
 }
 
-// So many such groups.
-pub fn groups(widths: &mut [u8], p: Place, count: u64, more: &[u8]) -> Place
-    ensures { plan result widths.new ≡ kept (times_on count (laid more.now)) (plan p widths.old) }
-{
-    if !has_room(widths, p) {
-        return p;
-    }
-    let mut place = p;
-    for _ in 0..count {
-        place = lay(widths, place, more);
-    }
-    place
-}
+impl Fields<'_> {
+    ghost use Rattle.fields.specs.SoFar.{so_far, SameMemory};
 
-// The same of one group, from a place that has room.
-fn lay(widths: &mut [u8], p: Place, more: &[u8]) -> Place
-    requires { Room p widths.old }
-    ensures { (plan result widths.new ≡ laid more.now (plan p widths.old)) × Room result widths.new }
-{
-    let number = p.number;
-    if widths.len() - number < more.len() {
-        return p;
+    // Fields of these widths more, where the memory has room for them all.
+    pub fn lay(&mut self, more: &[u8])
+        ensures plan { so_far self.new ≡ laid more.now (so_far self.old) }
+        ensures memory { SameMemory self.old self.new }
+    {
+        let number = self.number;
+        if self.widths.len() - number < more.len() {
+            return;
+        }
+        let mut at = self.at;
+        for width in more {
+            at += *width as usize;
+        }
+        let end = number + more.len();
+        let widths = &mut *self.widths;
+        widths[number..end].copy_from_slice(more);
+        self.at = at;
+        self.number = end;
     }
-    let mut at = p.at;
-    for i in 0..more.len() {
-        widths[number + i] = more[i];
-        at += more[i] as usize;
-    }
-    Place {
-        at,
-        number: number + more.len(),
-    }
-}
 
-// Bytes up to the end of the part.
-pub fn bytes(widths: &mut [u8], p: Place, end: usize) -> Place
-    ensures { plan result widths.new ≡ kept (bytes_to end) (plan p widths.old) }
-{
-    let at = p.at;
-    if end <= at {
-        return p;
+    // So many such groups.
+    pub fn groups(&mut self, count: u64, more: &[u8])
+        ensures plan { so_far self.new ≡ times_on count (laid more.now) (so_far self.old) }
+        ensures memory { SameMemory self.old self.new }
+    {
+        for _ in 0..count {
+            self.lay(more);
+        }
     }
-    groups(widths, p, ((end - at - 1) / 8 + 1) as u64, &[8])
+
+    // Bytes up to the end of the part.
+    pub fn bytes(&mut self, end: usize)
+        ensures plan { so_far self.new ≡ bytes_to end (so_far self.old) }
+        ensures memory { SameMemory self.old self.new }
+    {
+        let at = self.at;
+        if end <= at {
+            return;
+        }
+        self.groups(((end - at - 1) / 8 + 1) as u64, &[8]);
+    }
 }

@@ -1,44 +1,28 @@
 -- `layout::left` meets its contract: the differences are 0 where the numbers or the bytes do not suffice.
 -- Assumes nothing.
-use mathlib.Core.Path.{◌≡◌}
+use mathlib.Core.Path.{◌≡◌, sym, ◌∙◌}
+use mathlib.Core.Bool.{true, false}
 use mathlib.Core.List.{List}
 use Prim.Native.Nat.{ℕ, ◌-◌, ◌/◌}
 use native.Mathlib.Omega.{arith}
+use lib.Dec.{eqb}
 use lib.ListN.{length}
-use borrow.Author.Tests.{eq-eqb, ne_eqb}
-use Rattle.fields.specs.Fields.{Plan, plan}
+use Rattle.fields.specs.Fields.{Plan}
 use Rattle.layout.specs.Layout.{left}
 use Rattle.layout.proofs.left.Goals as goal
 
 -- where there is no sheet; where there is one
-bits : {r : ℕ} (s x : List ℕ) (π : Plan) → length x ≡ 0 → r ≡ length s - 4 - π.at / 8 → r ≡ left s x π
-unfolding left
-bits s x π h e = rw (eq-eqb (length x) 0 h) e
+module _ {r : ℕ} (s x : List ℕ) (π : Plan) where
+  bits : eqb (length x) 0 ≡ true → r ≡ length s - 4 - π.at / 8 → r ≡ left s x π
+  unfolding left
+  bits h e = rw h e
 
-numbers : {r : ℕ} (s x : List ℕ) (π : Plan) → (length x ≡ 0 → ⊥) → r ≡ length x - π.number → r ≡ left s x π
-unfolding left
-numbers s x π h e = rw (ne_eqb (length x) 0 h) e
+  numbers : eqb (length x) 0 ≡ false → r ≡ length x - π.number → r ≡ left s x π
+  unfolding left
+  numbers h e = rw h e
 
-pub returns-then-section-used : goal.returns-then-section-used
-returns-then-section-used c =
-    let if1 = c.if-sheet-eq0 in
-    let a = c.args in
-    λ m. bits a.section.now a.sheet.now (plan a.p m) if1.true (omega arith)
+pub returns-then-is_empty : goal.returns-then-is_empty
+returns-then-is_empty c = bits _ c.args.numbers.sheet.now _ (sym c.is_empty.ensures ∙ c.if-is_empty.true) (omega arith)
 
-pub returns-then-sheet-eq0 : goal.returns-then-sheet-eq0
-returns-then-sheet-eq0 c =
-    let if1 = c.if-sheet-eq0 in
-    let a = c.args in
-    λ m. bits a.section.now a.sheet.now (plan a.p m) if1.true (omega arith)
-
-pub returns-then-sheet-number : goal.returns-then-sheet-number
-returns-then-sheet-number c =
-    let if1 = c.if-sheet-eq0 in
-    let a = c.args in
-    λ m. numbers a.section.now a.sheet.now (plan a.p m) if1.false (omega arith)
-
-pub returns : goal.returns
-returns c =
-    let if1 = c.if-sheet-eq0 in
-    let a = c.args in
-    λ m. numbers a.section.now a.sheet.now (plan a.p m) if1.false (omega arith)
+pub returns-else-is_empty : goal.returns-else-is_empty
+returns-else-is_empty c = numbers c.args.numbers.section.now _ _ (sym c.is_empty.ensures ∙ c.if-is_empty.false) (omega arith)

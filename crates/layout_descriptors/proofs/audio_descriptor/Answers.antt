@@ -2,17 +2,10 @@
 -- Assumes nothing.
 use mathlib.Core.Path.{refl, sym}
 use Rattle.grammar.specs.Tables.{audio_descriptor}
-use Rattle.fields.specs.Fields.{Room}
 use Rattle.fields.proofs.Lays.{finished, pass, many}
-use Rattle.fields.proofs.Room.{group_in, groups_in}
 use Rattle.layout_descriptors.proofs.audio_descriptor.Goals as goal
 
-pub returns : goal.returns
+pub returns-clause-lays : goal.returns-clause-lays
 unfolding audio_descriptor
-returns c =
-    let room-group : Room c.group-rest.result c.group-rest.new.widths = (group_in _ _ refl c.requires c.group-rest.ensures).1 in
-    let room-groups : Room c.groups.result c.groups.new.widths = (groups_in _ _ _ refl (room-group) c.groups.ensures).1 in
-    let groups = (groups_in _ _ _ refl (room-group) c.groups.ensures).0 in
-    let group = (group_in _ _ refl c.requires c.group-rest.ensures).0 in
-    let value = c.value-audio_count in
-    (λ env end. pass group (many _ (sym value.ensures) groups (finished refl)), room-groups)
+returns-clause-lays c =
+    λ env end. pass c.lay.ensures.plan (many _ (sym c.value-audio_count.ensures) c.groups.ensures.plan (finished refl))

@@ -1,6 +1,6 @@
 -- `layout_descriptors::known_descriptor` meets its contract: by tag, the table of the descriptor's kind.
 -- Assumes nothing.
-use mathlib.Core.Path.{refl, ◌≡◌, ap, ◌∙◌, subst, sym}
+use mathlib.Core.Path.{◌≡◌, ap, ◌∙◌, subst, sym}
 use Prim.Native.Nat.{ℕ, ◌<◌}
 use native.Mathlib.Omega.{arith}
 use lib.Dec.{eqb}
@@ -10,10 +10,9 @@ use Rattle.descriptors.specs.declared.Kind.{Kind}
 use Rattle.descriptors.specs.declared.Kind.TheVariants.{Avail, Dtmf, Segmentation, Time, Audio, Unknown}
 use Rattle.descriptors.specs.Walk.{by_tag, table_of}
 use Rattle.descriptors.proofs.ByKind.{no_tag}
-use Rattle.fields.specs.Fields.{Source, Plan, Lays, Room}
+use Rattle.fields.specs.Fields.{Source, Plan, Lays}
 use Rattle.fields.proofs.Lays.{pass_last, chosen}
 use Rattle.fields.proofs.Sweeps.{lays_bytes}
-use Rattle.fields.proofs.Room.{group_in, bytes_in}
 use Rattle.layout_descriptors.proofs.known_descriptor.Goals as goal
 
 -- the table of the kind that the tag says
@@ -37,43 +36,28 @@ no_known {env} {v} {end} {π} {ρ} t e h l = by_tag_lem t e (subst (λ (k : Kind
 past : (t : ℕ) → (t ≡ 0 → ⊥) → (t ≡ 1 → ⊥) → (t ≡ 2 → ⊥) → (t ≡ 3 → ⊥) → (t ≡ 4 → ⊥) → 4 < t
 past t a b c d e = omega arith
 
-pub returns-in-0 : goal.returns-in-0
+pub returns-in-0-clause-lays : goal.returns-in-0-clause-lays
 unfolding avail_descriptor by_tag table_of
-returns-in-0 c =
-    let room-group : Room c.group.result c.group.new.widths = (group_in _ _ refl c.requires c.group.ensures).1 in
-    let group = (group_in _ _ refl c.requires c.group.ensures).0 in
-    (λ env e. by_tag_lem 0 (e ∙ c.in-0.is) (pass_last group), room-group)
+returns-in-0-clause-lays c = λ env e. by_tag_lem 0 (e ∙ c.in-0.is) (pass_last c.lay.ensures.plan)
 
-pub returns-in-1 : goal.returns-in-1
+pub returns-in-1-clause-lays : goal.returns-in-1-clause-lays
 unfolding by_tag table_of
-returns-in-1 c =
-    let dtmf_descriptor = c.dtmf_descriptor in
-    (λ env e. by_tag_lem 1 (e ∙ c.in-1.is) (dtmf_descriptor.ensures.0 _ _), dtmf_descriptor.ensures.1)
+returns-in-1-clause-lays c = λ env e. by_tag_lem 1 (e ∙ c.in-1.is) (c.dtmf_descriptor.ensures.lays _ _)
 
-pub returns-in-2 : goal.returns-in-2
+pub returns-in-2-clause-lays : goal.returns-in-2-clause-lays
 unfolding by_tag table_of
-returns-in-2 c =
-    let segmentation_descriptor = c.segmentation_descriptor in
-    (λ env e. by_tag_lem 2 (e ∙ c.in-2.is) (segmentation_descriptor.ensures.0 _), segmentation_descriptor.ensures.1)
+returns-in-2-clause-lays c = λ env e. by_tag_lem 2 (e ∙ c.in-2.is) (c.segmentation_descriptor.ensures.lays _)
 
-pub returns-in-3 : goal.returns-in-3
+pub returns-in-3-clause-lays : goal.returns-in-3-clause-lays
 unfolding by_tag table_of time_descriptor
-returns-in-3 c =
-    let room-group2 : Room c.group-in-3.result c.group-in-3.new.widths = (group_in _ _ refl c.requires c.group-in-3.ensures).1 in
-    let group2 = (group_in _ _ refl c.requires c.group-in-3.ensures).0 in
-    (λ env e. by_tag_lem 3 (e ∙ c.in-3.is) (pass_last group2), room-group2)
+returns-in-3-clause-lays c = λ env e. by_tag_lem 3 (e ∙ c.in-3.is) (pass_last c.lay-in-3.ensures.plan)
 
-pub returns-in-4 : goal.returns-in-4
+pub returns-in-4-clause-lays : goal.returns-in-4-clause-lays
 unfolding by_tag table_of
-returns-in-4 c =
-    let audio_descriptor = c.audio_descriptor in
-    (λ env e. by_tag_lem 4 (e ∙ c.in-4.is) (audio_descriptor.ensures.0 _ _), audio_descriptor.ensures.1)
+returns-in-4-clause-lays c = λ env e. by_tag_lem 4 (e ∙ c.in-4.is) (c.audio_descriptor.ensures.lays _ _)
 
-pub returns-in_default : goal.returns-in_default
-returns-in_default c =
-    let room-bytes : Room c.bytes.result c.bytes.new.widths = (bytes_in _ _ c.requires c.bytes.ensures).1 in
-    let bytes = (bytes_in _ _ c.requires c.bytes.ensures).0 in
-    let a = c.args in
-    let no = c.in_default.in_default-own.rest in
-    let tag : ℕ = a.splice_descriptor_tag in
-    (λ env e. no_known tag e (past tag no.0.0.0.0.1 no.0.0.0.1 no.0.0.1 no.0.1 no.1) (lays_bytes "private_byte" bytes), room-bytes)
+pub returns-in_default-clause-lays : goal.returns-in_default-clause-lays
+returns-in_default-clause-lays c =
+    let tag : ℕ = c.args.splice_descriptor_tag in
+    let none : 4 < tag = omega arith in
+    λ env e. no_known tag e none (lays_bytes "private_byte" c.bytes.ensures.plan)

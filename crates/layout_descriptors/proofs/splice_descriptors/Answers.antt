@@ -2,41 +2,26 @@
 -- Assumes nothing.
 use mathlib.Core.Path.{refl, ◌∙◌}
 use native.Mathlib.Omega.{arith}
-use borrow.Author.Rules.{rules}
 use Rattle.fields.proofs.Descents.{sweep_over, sweep_on_lem, sweep_last}
 use Rattle.layout_descriptors.proofs.splice_descriptors.Goals as goal
 
-pub loop-place-init : goal.loop-place-init
-loop-place-init c = (refl, search rules, λ env. refl)
+pub loop-fields-init : goal.loop-fields-init
+loop-fields-init c = record { all = λ env. refl; memory = refl }
 
-pub shape_of-widths-then-end-place : goal.shape_of-widths-then-end-place
-shape_of-widths-then-end-place c = c.loop-place.invariant.0
+pub loop-fields-preserved : goal.loop-fields-preserved
+loop-fields-preserved c =
+    let loop = c.loop-fields in
+    let next = c.splice_descriptor in record {
+      all = λ env.
+          loop.invariant.all env ∙ sweep_on_lem _ _ _ _ (omega arith) c.loop-fields-test.true (next.ensures.lays env _).lays c.if-fields-at.false;
+      memory = next.ensures.memory ∙ loop.invariant.memory;
+    }
 
-pub returns-then-end-place : goal.returns-then-end-place
-returns-then-end-place c =
-    let if1 = c.if-end-place in
-    let loop = c.loop-place in
-    λ env. loop.invariant.2 env ∙ sweep_over _ _ _ _ if1.true
+pub returns-then-fields-at-clause-lays : goal.returns-then-fields-at-clause-lays
+returns-then-fields-at-clause-lays c =
+    λ env.
+    c.loop-fields.invariant.all env
+    ∙ sweep_last _ _ _ _ (omega arith) c.loop-fields-test.true (c.splice_descriptor.ensures.lays env _).lays c.if-fields-at.true
 
-pub splice_descriptor-next-requires : goal.splice_descriptor-next-requires
-splice_descriptor-next-requires c = c.loop-place.invariant.1
-
-pub returns-then-next-place : goal.returns-then-next-place
-returns-then-next-place c =
-    let if2 = c.if-next-place in
-    let splice_descriptor = c.splice_descriptor-next in
-    let if1 = c.if-end-place in
-    let loop = c.loop-place in
-    λ env. loop.invariant.2 env ∙ sweep_last _ _ _ _ (omega arith) if1.false (splice_descriptor.ensures.0 env _).lays if2.true
-
-pub loop-place-preserved : goal.loop-place-preserved
-loop-place-preserved c =
-    let if2 = c.if-next-place in
-    let splice_descriptor = c.splice_descriptor-next in
-    let if1 = c.if-end-place in
-    let loop = c.loop-place in (
-      search rules,
-      splice_descriptor.ensures.1,
-      λ env.
-          loop.invariant.2 env ∙ sweep_on_lem _ _ _ _ (omega arith) if1.false (splice_descriptor.ensures.0 env _).lays if2.false,
-    )
+pub returns-clause-lays : goal.returns-clause-lays
+returns-clause-lays c = λ env. c.loop-fields.invariant.all env ∙ sweep_over _ _ _ _ c.loop-fields-test.false

@@ -1,21 +1,21 @@
 use mathlib.Core.Path.{◌≡◌}
-use mathlib.Core.List.{List}
 use Prim.Native.Nat.{ℕ, ◌-◌}
-use lib.ListN.{length}
 use Rattle.grammar.specs.Meaning.{Env}
 use Rattle.grammar.specs.Tables.{splice_descriptor}
-use Rattle.fields.specs.declared.Place.{Place}
-use Rattle.fields.specs.Fields.{Plan, plan, source, sweep_on, walk, Room}
+use Rattle.fields.specs.declared.Fields.{Fields}
+use Rattle.fields.specs.Fields.{Source, Plan, sweep_on, walk}
+use Rattle.fields.specs.SoFar.{given, so_far, SameMemory}
 use Rattle.layout_descriptors.proofs.splice_descriptors.Given as goal
 
--- the descriptors from a place on
-abbrev pub swept : List ℕ → List ℕ → ℕ → Env → Place → List ℕ → Plan
-swept s x end env p m = sweep_on (end - p.at) (walk splice_descriptor env (source s x) end) end (plan p m)
+-- the descriptors from the fields so far on
+abbrev pub swept : Source → ℕ → Env → Fields → Plan
+swept v end env f = sweep_on (end - f.at) (walk splice_descriptor env v end) end (so_far f)
 
-abbrev pub invariant-loop-place : goal.invariant-loop-place
-invariant-loop-place l =
-    (length l.widths ≡ length l.initial.widths) × Room l.place l.widths
-    × ((env : Env) → swept l.section l.sheet l.end env l.initial.place l.initial.widths ≡ swept l.section l.sheet l.end env l.place l.widths)
+abbrev pub invariant-loop-fields : goal.invariant-loop-fields
+invariant-loop-fields l = record {
+  all : (env : Env) → swept (given l.numbers) l.end env l.initial.fields ≡ swept (given l.numbers) l.end env l.fields;
+  memory : SameMemory l.initial.fields l.fields;
+}
 
-abbrev pub decreases-loop-place : goal.decreases-loop-place
-decreases-loop-place l = l.end - l.place.at
+abbrev pub decreases-loop-fields : goal.decreases-loop-fields
+decreases-loop-fields l = l.end - l.fields.at
