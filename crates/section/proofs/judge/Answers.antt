@@ -9,11 +9,14 @@ use lib.Dec.{eqb}
 use lib.ListN.{length}
 use Rattle.std.specs.Prelude.{Option, Some, None, Result, Ok, Err, ok_or}
 use Rattle.std.proofs.lemmas.Result.{err_from_is_err_and}
-use Rattle.bits.specs.Bits.{bit, num}
+use Rattle.bits.specs.Bits.{bit, num, field_of}
 use Rattle.bits.proofs.Bytes.{num_room}
 use Rattle.bits.proofs.Within.{field_there}
 use Rattle.units.specs.declared.refusals.Refusal.{Refusal}
-use Rattle.grammar.specs.Meaning.{breach, ends}
+use Rattle.grammar.specs.Syntax.{under}
+use Rattle.grammar.specs.Meaning.{Env, breach, ends}
+use Rattle.grammar.specs.Tables.{descriptor_loop, bytes}
+use Rattle.grammar.proofs.Run.{Runs}
 use Rattle.grammar.specs.Ended.{outcome}
 use Rattle.commands.specs.Command.{command_end}
 use Rattle.descriptors.specs.declared.Cursor.{Cursor}
@@ -49,6 +52,21 @@ no_command {r} s heads opens None e q =
     (by_grammar s heads (Err Refusal.Command) (omega arith, omega arith) (whole s (breach 8) heads.long opens (broken_command s heads.long (sym e))))
 no_command s heads opens (Some n) e q = cc
 
+-- where it is byte n: the section's bytes go on past it, and the loop after it decides
+module _ (s : List ℕ) (heads : Headed s) (n : ℕ) (ended : command_end s ≡ ends (8 * n)) where
+  inside : (n + 4 ≤ length s) × (length s ≤ 4096)
+  inside = (command_inside s heads.long n ended, heads.fits)
+
+  loop_length : {w : ℕ} → w ≡ field_of s (8 * n) 16 → num (bit s) (8 * n) 16 ≡ w
+  loop_length e = let l = inside in sym (e ∙ field_there s (8 * n) 16 (omega arith) (omega arith))
+
+  looped : (v : Result (Unit {0}) Refusal) → eqb (the s "encrypted_packet") 1 ≡ false
+      → ((env : Env) → Runs (under 9 descriptor_loop (bytes "alignment_stuffing")) env (bit s) (8 * (length s - 4)) (8 * n) (judged (length s - 4) v)) × IsGrammatical v
+      → accept_of s ≡ v
+  looped v opens r =
+      by_grammar s heads v r.1
+      (whole s (judged (length s - 4) v) heads.long opens (whole_command s heads.long n ended r.0))
+
 pub returns-in_err-header : goal.returns-in_err-header
 returns-in_err-header c =
     let gone = err_from_is_err_and c.from_residual.result c.from_residual.ensures.1 in
@@ -57,87 +75,57 @@ returns-in_err-header c =
 pub bounds-s-4 : goal.bounds-s-4
 bounds-s-4 c =
     let heads : Headed c.args.s.now = headed _ (sym c.in_ok-header.ensures) in
-    omega (arith, (heads).long)
+    omega (arith, heads.long)
 
 pub returns-then-s-ge128 : goal.returns-then-s-ge128
 returns-then-s-ge128 c =
-    let heads : Headed c.args.s.now = headed _ (sym c.in_ok-header.ensures) in
     let s = c.args.s.now in
+    let heads : Headed s = headed _ (sym c.in_ok-header.ensures) in
     let closed = sealed s (λ i. (c.type_inv.s i).fits) c.if-s-ge128.true in
-    decide s true {c = loop_from s (command_end s)} (by_grammar s (heads) (Ok tt) tt (sealed_whole s (heads).long closed)) closed refl
+    decide s true {c = loop_from s (command_end s)} (by_grammar s heads (Ok tt) tt (sealed_whole s heads.long closed)) closed refl
 
 pub returns-in_err-at : goal.returns-in_err-at
 returns-in_err-at c =
-    let heads : Headed c.args.s.now = headed _ (sym c.in_ok-header.ensures) in
-    let opens : eqb (the c.args.s.now "encrypted_packet") 1 ≡ false = clear _ (λ i. (c.type_inv.s i).fits) c.if-s-ge128.false in
+    let opens = clear _ (λ i. (c.type_inv.s i).fits) c.if-s-ge128.false in
     let gone = err_from_is_err_and c.from_residual-in_err-at.result c.from_residual-in_err-at.ensures.1 in
-    rw (gone.1, gone.2) (no_command _ heads opens _ c.command_end.ensures c.in_err-at.ensures.value)
+    rw (gone.1, gone.2) (no_command _ (headed _ (sym c.in_ok-header.ensures)) opens _ c.command_end.ensures c.in_err-at.ensures.value)
 
 pub descriptor_loop-requires : goal.descriptor_loop-requires
 descriptor_loop-requires c =
-    let heads : Headed c.args.s.now = headed _ (sym c.in_ok-header.ensures) in
-    let ended : command_end c.args.s.now ≡ ends (8 * c.in_ok-at.at) = sym c.command_end.ensures ∙ ap outcome c.in_ok-at.ensures.ok_part in
-    let inside : (c.in_ok-at.at + 4 ≤ length c.args.s.now) × (length c.args.s.now ≤ 4096) = let h = heads in
-    (command_inside _ h.long _ (ended), h.fits) in
-    ((inside).0, (inside).1)
+    inside _ (headed _ (sym c.in_ok-header.ensures)) _ (sym c.command_end.ensures ∙ ap outcome c.in_ok-at.ensures.ok_part)
 
 pub returns-in_err-descriptor_loop : goal.returns-in_err-descriptor_loop
 returns-in_err-descriptor_loop c =
-    let heads : Headed c.args.s.now = headed _ (sym c.in_ok-header.ensures) in
-    let opens : eqb (the c.args.s.now "encrypted_packet") 1 ≡ false = clear _ (λ i. (c.type_inv.s i).fits) c.if-s-ge128.false in
-    let ended : command_end c.args.s.now ≡ ends (8 * c.in_ok-at.at) = sym c.command_end.ensures ∙ ap outcome c.in_ok-at.ensures.ok_part in
-    let looped : accept_of c.args.s.now ≡ c.descriptor_loop.result = let s = c.args.s.now in
-    let h = heads in
-    by_grammar s h c.descriptor_loop.result c.descriptor_loop.ensures.1
-    (whole s (judged (length s - 4) c.descriptor_loop.result) h.long (opens)
-    (whole_command s h.long c.in_ok-at.at (ended) c.descriptor_loop.ensures.0)) in
+    let opens = clear _ (λ i. (c.type_inv.s i).fits) c.if-s-ge128.false in
+    let ended = sym c.command_end.ensures ∙ ap outcome c.in_ok-at.ensures.ok_part in
     let gone = err_from_is_err_and c.from_residual-in_err-descriptor_loop.result c.from_residual-in_err-descriptor_loop.ensures.1 in
-    rw (gone.1, gone.2) (refuse _ _ (looped ∙ c.in_err-descriptor_loop.was))
+    rw (gone.1, gone.2)
+    (refuse _ _
+    (looped c.args.s.now (headed _ (sym c.in_ok-header.ensures)) _ ended _ opens c.descriptor_loop.ensures
+    ∙ c.in_err-descriptor_loop.was))
 
 pub overflow_add-result : goal.overflow_add-result
 overflow_add-result c =
-    let heads : Headed c.args.s.now = headed _ (sym c.in_ok-header.ensures) in
-    let ended : command_end c.args.s.now ≡ ends (8 * c.in_ok-at.at) = sym c.command_end.ensures ∙ ap outcome c.in_ok-at.ensures.ok_part in
-    let inside : (c.in_ok-at.at + 4 ≤ length c.args.s.now) × (length c.args.s.now ≤ 4096) = let h = heads in
-    (command_inside _ h.long _ (ended), h.fits) in
-    omega (arith, inside)
+    omega (arith, inside c.args.s.now (headed _ (sym c.in_ok-header.ensures)) c.in_ok-at.at (sym c.command_end.ensures ∙ ap outcome c.in_ok-at.ensures.ok_part))
 
 pub overflow_add-result-2 : goal.overflow_add-result-2
 overflow_add-result-2 c =
-    let heads : Headed c.args.s.now = headed _ (sym c.in_ok-header.ensures) in
-    let ended : command_end c.args.s.now ≡ ends (8 * c.in_ok-at.at) = sym c.command_end.ensures ∙ ap outcome c.in_ok-at.ensures.ok_part in
-    let inside : (c.in_ok-at.at + 4 ≤ length c.args.s.now) × (length c.args.s.now ≤ 4096) = let h = heads in
-    (command_inside _ h.long _ (ended), h.fits) in
-    omega (arith, inside)
+    omega (arith, inside c.args.s.now (headed _ (sym c.in_ok-header.ensures)) c.in_ok-at.at (sym c.command_end.ensures ∙ ap outcome c.in_ok-at.ensures.ok_part))
 
 pub overflow_add-result-3 : goal.overflow_add-result-3
 overflow_add-result-3 c =
-    let heads : Headed c.args.s.now = headed _ (sym c.in_ok-header.ensures) in
-    let ended : command_end c.args.s.now ≡ ends (8 * c.in_ok-at.at) = sym c.command_end.ensures ∙ ap outcome c.in_ok-at.ensures.ok_part in
-    let inside : (c.in_ok-at.at + 4 ≤ length c.args.s.now) × (length c.args.s.now ≤ 4096) = let h = heads in
-    (command_inside _ h.long _ (ended), h.fits) in
-    let given-length : num (bit c.args.s.now) (8 * c.in_ok-at.at) 16 ≡ c.pair-descriptor_loop_length.result = let s = c.args.s.now in
-    let l = inside in
-    sym (c.pair-descriptor_loop_length.ensures ∙ field_there s (8 * c.in_ok-at.at) 16 (omega arith) (omega arith)) in
     let s = c.args.s.now in
-    omega (arith, inside, given-length, num_room s (8 * c.in_ok-at.at) 2 (omega arith))
+    let n : ℕ = c.in_ok-at.at in
+    let heads : Headed s = headed _ (sym c.in_ok-header.ensures) in
+    let ended : command_end s ≡ ends (8 * n) = sym c.command_end.ensures ∙ ap outcome c.in_ok-at.ensures.ok_part in
+    omega (arith, inside s heads n ended, loop_length s heads n ended c.pair-descriptor_loop_length.ensures, num_room s (8 * n) 2 (omega arith))
 
 pub returns : goal.returns
 returns c =
-    let opens : eqb (the c.args.s.now "encrypted_packet") 1 ≡ false = clear _ (λ i. (c.type_inv.s i).fits) c.if-s-ge128.false in
-    let ended : command_end c.args.s.now ≡ ends (8 * c.in_ok-at.at) = sym c.command_end.ensures ∙ ap outcome c.in_ok-at.ensures.ok_part in
-    let heads : Headed c.args.s.now = headed _ (sym c.in_ok-header.ensures) in
-    let looped : accept_of c.args.s.now ≡ c.descriptor_loop.result = let s = c.args.s.now in
-    let h = heads in
-    by_grammar s h c.descriptor_loop.result c.descriptor_loop.ensures.1
-    (whole s (judged (length s - 4) c.descriptor_loop.result) h.long (opens)
-    (whole_command s h.long c.in_ok-at.at (ended) c.descriptor_loop.ensures.0)) in
-    let inside : (c.in_ok-at.at + 4 ≤ length c.args.s.now) × (length c.args.s.now ≤ 4096) = let h = heads in
-    (command_inside _ h.long _ (ended), h.fits) in
-    let given-length : num (bit c.args.s.now) (8 * c.in_ok-at.at) 16 ≡ c.pair-descriptor_loop_length.result = let s = c.args.s.now in
-    let l = inside in
-    sym (c.pair-descriptor_loop_length.ensures ∙ field_there s (8 * c.in_ok-at.at) 16 (omega arith) (omega arith)) in
     let s = c.args.s.now in
     let n : ℕ = c.in_ok-at.at in
-    ap (λ (w : ℕ). Ok (Some (record { at = n + 2; end = n + 2 + w }))) (sym (given-length))
-    ∙ decide s false (looped ∙ c.in_ok-descriptor_loop.was) (opens) (loop_after s n (ended))
+    let heads : Headed s = headed _ (sym c.in_ok-header.ensures) in
+    let opens = clear _ (λ i. (c.type_inv.s i).fits) c.if-s-ge128.false in
+    let ended : command_end s ≡ ends (8 * n) = sym c.command_end.ensures ∙ ap outcome c.in_ok-at.ensures.ok_part in
+    ap (λ (w : ℕ). Ok (Some (record { at = n + 2; end = n + 2 + w }))) (sym (loop_length s heads n ended c.pair-descriptor_loop_length.ensures))
+    ∙ decide s false (looped s heads n ended _ opens c.descriptor_loop.ensures ∙ c.in_ok-descriptor_loop.was) opens (loop_after s n ended)
