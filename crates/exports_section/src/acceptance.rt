@@ -4,8 +4,6 @@ ghost use Rattle.crc.specs.Crc.{crc32};
 ghost use Rattle.section.specs.Accept.{accept_of};
 ghost use Rattle.exports_section.specs.Row.{row_number};
 
-use section::Verdict;
-
 // The CRC-32 (ISO/IEC 13818-1) of the bytes.
 #[unsafe(no_mangle)]
 pub extern "C" fn timpanimist_crc32(bytes: &[u8]) -> u32
@@ -19,9 +17,8 @@ pub extern "C" fn timpanimist_crc32(bytes: &[u8]) -> u32
 pub extern "C" fn timpanimist_accept(section: &[u8]) -> u32
     ensures { result ≡ row_number (accept_of section.now) }
 {
-    let verdict = section::accept(section);
-    match verdict {
-        Verdict::Accepted => 0,
-        Verdict::Refused(refusal) => refusal.number() as u32,
+    match section::accept(section) {
+        Ok(()) => 0,
+        Err(refusal) => refusal as u32,
     }
 }

@@ -9,8 +9,7 @@ use units::Ticks;
 pub extern "C" fn timpanimist_ticks_to_millis(t: u64) -> u64
     ensures { result ≡ (millis_of (ticks t)).0 }
 {
-    let millis = Ticks(t).to_millis();
-    millis.0
+    Ticks(t).to_millis().0
 }
 
 // The sum of two times of the 33-bit clock.
@@ -18,6 +17,5 @@ pub extern "C" fn timpanimist_ticks_to_millis(t: u64) -> u64
 pub extern "C" fn timpanimist_clock_sum(a: u64, b: u64) -> u64
     ensures { result ≡ (clock_sum (ticks a) (ticks b)).0 }
 {
-    let sum = Ticks(a).clock_sum(Ticks(b));
-    sum.0
+    Ticks(a).clock_sum(Ticks(b)).0
 }

@@ -68,7 +68,7 @@ fn names_and_words() {
 /// A refusal is marked by the same bit everywhere.
 #[test]
 fn mark_of_a_refusal() {
-    assert_eq!(value_of("wire (Refused r)"), "2 ^ 63 + number_of r");
+    assert_eq!(value_of("wire (Err r)"), "2 ^ 63 + number_of r");
     assert!(read(HEADER).contains("return answer >> 63 ? (uint32_t)answer : 0;"));
     assert!(read("rust/src/refusal.rs").contains("const REFUSED: u64 = 1 << 63;"));
     assert!(text(READINGS).contains("or 2^63 plus the refusal's number"));
