@@ -7,36 +7,35 @@ use mathlib.Core.List.{List}
 use Prim.Native.Nat.{ℕ, ◌+◌, ◌≤◌, ◌<◌}
 use lib.ListN.{length, take, drop}
 use lib.Dec.{eqb}
+use Rattle.std.specs.Prelude.{Some, None, Ok, Err}
 use Rattle.units.specs.declared.refusals.Refusal.{Refusal}
 use Rattle.units.specs.declared.refusals.Refusal.TheVariants.{Sealed}
-use Rattle.section.specs.declared.Verdict.{Verdict}
-use Rattle.section.specs.declared.Verdict.TheVariants.{Accepted}
 use Rattle.section.specs.Accept.{the, accept_of}
-use Rattle.opening.specs.declared.Opened.{Opened}
 use Rattle.opening.specs.First.{open_of}
 use Rattle.opening.proofs.Asked.{refused_open, sealed_open, when_refused}
 use Rattle.known_walk.specs.Known.{known_cursors}
-use Rattle.labels.specs.declared.answers.Label.{Label}
+use Rattle.descriptor_reading.specs.declared.answers.Part.{Part}
 use Rattle.labels.specs.Labels.{label_at, bill_label, label_of, label_bytes}
 use Rattle.labels.proofs.LabelPart.{label_within, label_some}
 
 module _ (s house : List ℕ) where
   -- the house's label is its name
-  pub house_name : bill_label s ≡ Label.House → label_bytes s house ≡ house
+  pub house_name : bill_label s ≡ None → label_bytes s house ≡ house
   unfolding label_bytes
   house_name e = ap (label_of s house) e
 
   -- a UPID's is that part of the section
-  pub upid_label : (at n : ℕ) → bill_label s ≡ Label.Upid at n → (label_bytes s house ≡ take n (drop at s)) × (0 < n) × (at + n ≤ length s)
+  pub upid_label : (part : Part) → bill_label s ≡ Some part
+      → (label_bytes s house ≡ take part.length (drop part.at s)) × (0 < part.length) × (part.at + part.length ≤ length s)
   unfolding label_bytes
-  upid_label at n e = (ap (label_of s house) e, label_some s at n e, label_within s at n e)
+  upid_label part e = (ap (label_of s house) e, label_some s part e, label_within s part e)
 
-  not_asked : (r : Refusal) → open_of s ≡ Opened.Refused r → label_bytes s house ≡ house
+  not_asked : (r : Refusal) → open_of s ≡ Err r → label_bytes s house ≡ house
   unfolding bill_label
-  not_asked r e = house_name (when_refused (λ q. Label.House) (λ c. label_at s (known_cursors s c)) r e)
+  not_asked r e = house_name (when_refused (λ q. None) (λ c. label_at s (known_cursors s c)) r e)
 
-  pub refused_label : (r : Refusal) → accept_of s ≡ Verdict.Refused r → label_bytes s house ≡ house
+  pub refused_label : (r : Refusal) → accept_of s ≡ Err r → label_bytes s house ≡ house
   refused_label r e = not_asked r (refused_open s r e)
 
-  pub sealed_label : accept_of s ≡ Accepted → eqb (the s "encrypted_packet") 1 ≡ true → label_bytes s house ≡ house
+  pub sealed_label : accept_of s ≡ Ok tt → eqb (the s "encrypted_packet") 1 ≡ true → label_bytes s house ≡ house
   sealed_label e h = not_asked Sealed (sealed_open s e h)
