@@ -5,55 +5,40 @@
 ghost use Rattle.std.specs.Prelude.{◌≡◌};
 ghost use Rattle.command_questions.specs.Questions as says;
 
-use command_reading::{Command, Event, EventComponent, InsertComponent, PrivateByte};
-use opening::Opened;
+use command_reading::{Command, Event, EventComponent, InsertComponent};
+use units::Refusal;
 
 // The command.
-pub fn command(section: &[u8]) -> Command
+pub fn command(section: &[u8]) -> Result<Command, Refusal>
     ensures { result ≡ says.command section.now }
 {
-    match opening::open(section) {
-        Opened::Open(_) => command_reading::command(section),
-        Opened::Refused(refusal) => Command::Refused(refusal),
-    }
+    opening::open(section).and_then(|_| command_reading::command(section))
 }
 
 // Component n of an insert.
-pub fn insert_component(section: &[u8], n: usize) -> InsertComponent
+pub fn insert_component(section: &[u8], n: usize) -> Result<InsertComponent, Refusal>
     ensures { result ≡ says.insert_component section.now n }
 {
-    match opening::open(section) {
-        Opened::Open(_) => command_lists::insert_component(section, n),
-        Opened::Refused(refusal) => InsertComponent::Refused(refusal),
-    }
+    opening::open(section).and_then(|_| command_lists::insert_component(section, n))
 }
 
 // Event n of a schedule.
-pub fn schedule_event(section: &[u8], n: usize) -> Event
+pub fn schedule_event(section: &[u8], n: usize) -> Result<Event, Refusal>
     ensures { result ≡ says.schedule_event section.now n }
 {
-    match opening::open(section) {
-        Opened::Open(_) => command_events::schedule_event(section, n),
-        Opened::Refused(refusal) => Event::Refused(refusal),
-    }
+    opening::open(section).and_then(|_| command_events::schedule_event(section, n))
 }
 
 // Component m of event n of a schedule.
-pub fn event_component(section: &[u8], n: usize, m: usize) -> EventComponent
+pub fn event_component(section: &[u8], n: usize, m: usize) -> Result<EventComponent, Refusal>
     ensures { result ≡ says.event_component section.now n m }
 {
-    match opening::open(section) {
-        Opened::Open(_) => command_events::event_component(section, n, m),
-        Opened::Refused(refusal) => EventComponent::Refused(refusal),
-    }
+    opening::open(section).and_then(|_| command_events::event_component(section, n, m))
 }
 
 // Byte n of a private command, after its identifier.
-pub fn private_byte(section: &[u8], n: usize) -> PrivateByte
+pub fn private_byte(section: &[u8], n: usize) -> Result<u8, Refusal>
     ensures { result ≡ says.private_byte section.now n }
 {
-    match opening::open(section) {
-        Opened::Open(_) => command_lists::private_byte(section, n),
-        Opened::Refused(refusal) => PrivateByte::Refused(refusal),
-    }
+    opening::open(section).and_then(|_| command_lists::private_byte(section, n))
 }

@@ -1,14 +1,10 @@
 -- `command_questions::insert_component` meets its contract: an open section is asked, any other is refused.
 -- Assumes nothing.
-use mathlib.Core.Path.{sym, ◌∙◌}
+use borrow.Author.Rules.{rules}
 use Rattle.command_questions.specs.Questions.{insert_component}
-use Rattle.opening.proofs.Asked.{when_open, when_refused}
+use Rattle.opening.specs.First.{asked}
 use Rattle.command_questions.proofs.insert_component.Goals as goal
 
-pub returns-in-Open : goal.returns-in-Open
-unfolding insert_component
-returns-in-Open c = c.insert_component.ensures ∙ sym (when_open _ _ _ (sym c.«open».ensures ∙ c.in-Open.is))
-
-pub returns-in-Refused : goal.returns-in-Refused
-unfolding insert_component
-returns-in-Refused c = sym (when_refused _ _ _ (sym c.«open».ensures ∙ c.in-Refused.is))
+pub returns : goal.returns
+unfolding insert_component asked
+returns c = search rules

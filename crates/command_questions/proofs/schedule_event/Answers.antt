@@ -1,14 +1,10 @@
 -- `command_questions::schedule_event` meets its contract: an open section is asked, any other is refused.
 -- Assumes nothing.
-use mathlib.Core.Path.{sym, ◌∙◌}
+use borrow.Author.Rules.{rules}
 use Rattle.command_questions.specs.Questions.{schedule_event}
-use Rattle.opening.proofs.Asked.{when_open, when_refused}
+use Rattle.opening.specs.First.{asked}
 use Rattle.command_questions.proofs.schedule_event.Goals as goal
 
-pub returns-in-Open : goal.returns-in-Open
-unfolding schedule_event
-returns-in-Open c = c.schedule_event.ensures ∙ sym (when_open _ _ _ (sym c.«open».ensures ∙ c.in-Open.is))
-
-pub returns-in-Refused : goal.returns-in-Refused
-unfolding schedule_event
-returns-in-Refused c = sym (when_refused _ _ _ (sym c.«open».ensures ∙ c.in-Refused.is))
+pub returns : goal.returns
+unfolding schedule_event asked
+returns c = search rules
