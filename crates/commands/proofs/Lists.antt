@@ -9,8 +9,12 @@ use lib.ListN.{length}
 use lib.Dec.{leb}
 use borrow.Author.Tests.{le-leb, lt-leb}
 use Rattle.bits.specs.Bits.{bit}
+use Rattle.std.specs.Prelude.{Some}
+use Rattle.grammar.specs.declared.Part.{Part}
 use Rattle.grammar.specs.Syntax.{Prog}
 use Rattle.grammar.specs.Meaning.{Env, again, read, run, Outcome, breach, ends, end_of}
+use Rattle.grammar.proofs.Within.{byte_within}
+use Rattle.grammar.proofs.Ending.{Ends}
 use Rattle.grammar.proofs.Run.{times, times_on_lem, times_off, end_again}
 use Rattle.commands.specs.Command.{in_bytes}
 
@@ -42,3 +46,7 @@ module _ (n i : ℕ) (g : ℕ → Outcome) {o : Outcome} (k : ℕ) (so_far : o �
 
   pub one_broken : {m : ℕ} → g k ≡ breach m → o ≡ breach m
   one_broken e = so_far ∙ times_off (n - i) g k (omega arith) e
+
+-- a part that ends, ends within its bytes
+pub ends_inside : (p : Prog) (env : Env) (part : Part) (n : ℕ) → Ends p env part (Some n) → n ≤ part.end
+ends_inside p env part n r = (byte_within p env (bit part.s.now) part.end part.at n r.runs part.in_order).1

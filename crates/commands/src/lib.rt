@@ -1,11 +1,12 @@
 // Where a splice command ends: a function for each table of the standard, over the bytes from `at` up to `end`.
 #![tactic(auto)]
 
-ghost use Rattle.std.specs.Prelude.{◌≡◌, ◌*◌, cond};
+ghost use Rattle.std.specs.Prelude.{◌≡◌, ℕ, ◌*◌, ◌≤◌, cond, Option, Some};
 ghost use Rattle.bits.specs.Bits.{bit};
 ghost use Rattle.grammar.specs.Meaning.{Env, value_of, run};
 ghost use Rattle.grammar.specs.Tables.{bytes, private_command, splice_time, avails, insert_component, insert_times, splice_insert, schedule_times, schedule_event, splice_schedule};
-ghost use Rattle.grammar.specs.Syntax.{stop};
+ghost use Rattle.grammar.specs.Syntax.{Prog, stop};
+ghost use Rattle.grammar.specs.declared.Part.{Part};
 ghost use Rattle.grammar.specs.Ended.{outcome};
 ghost use Rattle.grammar.proofs.Ending.{Ends};
 ghost use Rattle.grammar.proofs.Run.{times};
@@ -137,12 +138,9 @@ fn insert_component(part: Part, splice_immediate_flag: u8) -> Option<usize>
 fn insert_components(part: Part, component_count: usize, splice_immediate_flag: u8) -> Option<usize>
     ensures { (env : Env) → value_of env "splice_immediate_flag" ≡ splice_immediate_flag → times component_count (run insert_component env (bit part.entry.s.now) (8 * part.entry.end)) (8 * part.entry.at) ≡ outcome result }
 {
-    let Part { s, at, end } = part;
-    let mut next = at;
-    for _ in 0..component_count {
-        next = insert_component(Part { s, at: next, end }, splice_immediate_flag)?;
-    }
-    Some(next)
+    parts(part, component_count, |one| {
+        insert_component(one, splice_immediate_flag)
+    })
 }
 
 // Table 10, when the splice takes place.
@@ -221,10 +219,23 @@ fn splice_schedule(part: Part) -> Option<usize>
 fn schedule_events(part: Part, count: usize) -> Option<usize>
     ensures { (env : Env) → times count (run schedule_event env (bit part.entry.s.now) (8 * part.entry.end)) (8 * part.entry.at) ≡ outcome result }
 {
+    parts(part, count, schedule_event)
+}
+
+// Where `count` parts end that stand one behind another, each by the same table.
+fn parts<'a, F: Fn(Part<'a>) -> Option<usize>>(
+    part: Part<'a>,
+    count: usize,
+    table: F,
+) -> Option<usize>
+    requires callable { F.IsAlwaysCallable table }
+    requires within { (one : Part) (next : ℕ) → F.post table one (Some next) → next ≤ one.end }
+    ensures { (p : Prog) (env : Env) → ((one : Part) (o : Option ℕ) → F.post table one o → Ends p env one o) → times count (run p env (bit part.entry.s.now) (8 * part.entry.end)) (8 * part.entry.at) ≡ outcome result }
+{
     let Part { s, at, end } = part;
     let mut next = at;
     for _ in 0..count {
-        next = schedule_event(Part { s, at: next, end })?;
+        next = table(Part { s, at: next, end })?;
     }
     Some(next)
 }
