@@ -2,6 +2,6 @@
 // function takes any bytes. Each subject has a crate of its own, and this is the one door to them all.
 #![tactic(auto)]
 
-pub use breaks::{Break, DashDuration, break_answer, dash_duration};
-pub use labels::{Label, bill_label, label};
-pub use times::{Dvb, EffectiveTime, dvb, effective_time};
+pub use breaks::{Break, break_answer, dash_duration};
+pub use labels::{Part, bill_label, label};
+pub use times::{dvb, effective_time};
