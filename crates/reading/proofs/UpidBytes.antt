@@ -3,32 +3,30 @@
 use mathlib.Core.Path.{◌≡◌, refl, sym, ap, ◌∙◌}
 use mathlib.Core.List.{List}
 use Prim.Native.Nat.{ℕ, ◌+◌, ◌≤◌}
-use native.Mathlib.Omega.{arith}
 use lib.ListN.{length}
 use Rattle.bits.proofs.Bytes.{AreBytes}
 use Rattle.grammar.specs.Names.{all_of}
 use Rattle.descriptors.specs.declared.Cursor.{Cursor}
-use Rattle.opening.specs.declared.Opened.{Opened}
 use Rattle.opening.specs.First.{first_cursor, open_of}
 use Rattle.opening.proofs.Asked.{is_open, when_open, when_refused}
-use Rattle.descriptor_reading.specs.declared.answers.Upid.{Upid}
+use Rattle.std.specs.Prelude.{Result, Ok, Err}
+use Rattle.units.specs.declared.refusals.Refusal.{Refusal}
 use Rattle.known_walk.specs.Known.{known_trace}
 use Rattle.descriptor_reading.specs.Descriptor as Says
 use Rattle.descriptor_reading.proofs.UpidPart.{upid_within, upid_part}
 use Rattle.reading.specs.Reading.{upid, part_of, upid_bytes}
 
-module _ (s : List ℕ) (n at l : ℕ) (e : upid s n ≡ Upid.Part at l) where
+module _ (s : List ℕ) (n at l : ℕ) (e : upid s n ≡ Ok (record { at = at; length = l })) where
   -- a part is that of an open section's descriptor
-  pub of_open : (c : Cursor) × (open_of s ≡ Opened.Open c) × (Says.upid s c n ≡ Upid.Part at l)
+  pub of_open : (c : Cursor) × (open_of s ≡ Ok c) × (Says.upid s c n ≡ Ok (record { at = at; length = l }))
   unfolding upid
   of_open = go (open_of s) refl
     where
-      go : (o : Opened) → open_of s ≡ o → (c : Cursor) × (open_of s ≡ Opened.Open c) × (Says.upid s c n ≡ Upid.Part at l)
-      go (Opened.Open c) h = (c, h, sym (when_open Upid.Refused (λ d. Says.upid s d n) c h) ∙ e)
-      go (Opened.Refused r) h =
-          let q = sym (when_refused Upid.Refused (λ d. Says.upid s d n) r h) ∙ e in
-          let z : ◌≡◌ {A = ℕ} 0 1 = cc in
-          absurd (omega arith)
+      go : (o : Result Cursor Refusal) → open_of s ≡ o → (c : Cursor) × (open_of s ≡ Ok c) × (Says.upid s c n ≡ Ok (record { at = at; length = l }))
+      go (Ok c) h = (c, h, sym (when_open Err (λ d. Says.upid s d n) c h) ∙ e)
+      go (Err r) h =
+          let q = sym (when_refused Err (λ d. Says.upid s d n) r h) ∙ e in
+          cc
 
   -- it lies in the section
   pub part_within : at + l ≤ length s

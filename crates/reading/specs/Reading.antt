@@ -3,11 +3,11 @@
 -- Assumes nothing.
 unfoldable pub use Rattle.command_questions.specs.Questions.{command, insert_component, schedule_event, event_component, private_byte}
 unfoldable pub use Rattle.descriptor_questions.specs.Questions.{dtmf_char, segmentation_component, audio_component}
-use Rattle.std.specs.Prelude.{ℕ, List, [], length, take, drop}
+use Rattle.std.specs.Prelude.{ℕ, List, [], length, take, drop, Result, Ok, Err}
+use Rattle.units.specs.declared.refusals.Refusal.{Refusal}
 use Rattle.opening.specs.First.{open_of, asked}
 use Rattle.descriptor_reading.specs.declared.answers.Descriptor.{Descriptor}
-use Rattle.descriptor_reading.specs.declared.answers.KnownCount.{KnownCount}
-use Rattle.descriptor_reading.specs.declared.answers.Upid.{Upid}
+use Rattle.descriptor_reading.specs.declared.answers.Part.{Part}
 use Rattle.known_walk.specs.Known.{known_cursors, known_trace}
 use Rattle.descriptor_reading.specs.Descriptor.{descriptor_of}
 use Rattle.descriptor_reading.specs.Descriptor as Says
@@ -15,23 +15,23 @@ use Rattle.descriptor_reading.specs.Descriptor as Says
 -- ---- the known descriptors, by number from 0; unknown ones are not counted
 
 -- how many there are
-unfoldable pub known_count : List ℕ → KnownCount
-known_count s = asked (open_of s) KnownCount.Refused (λ c. KnownCount.Count (length (known_cursors s c)))
+unfoldable pub known_count : List ℕ → Result ℕ Refusal
+known_count s = asked (open_of s) Err (λ c. Ok (length (known_cursors s c)))
 
 -- what number n says
-unfoldable pub known_descriptor : List ℕ → ℕ → Descriptor
-known_descriptor s n = asked (open_of s) Descriptor.Refused (λ c. descriptor_of (known_trace s c n))
+unfoldable pub known_descriptor : List ℕ → ℕ → Result Descriptor Refusal
+known_descriptor s n = asked (open_of s) Err (λ c. descriptor_of (known_trace s c n))
 
 -- ---- the UPID of known descriptor n
 
 -- where its bytes lie, or why there are none
-unfoldable pub upid : List ℕ → ℕ → Upid
-upid s n = asked (open_of s) Upid.Refused (λ c. Says.upid s c n)
+unfoldable pub upid : List ℕ → ℕ → Result Part Refusal
+upid s n = asked (open_of s) Err (λ c. Says.upid s c n)
 
 -- that part of the bytes, none where it is refused
-unfoldable pub part_of : List ℕ → Upid → List ℕ
-part_of s (Upid.Part at n) = take n (drop at s)
-part_of s (Upid.Refused r) = []
+unfoldable pub part_of : List ℕ → Result Part Refusal → List ℕ
+part_of s (Ok part) = take part.length (drop part.at s)
+part_of s (Err refusal) = []
 
 -- the UPID bytes themselves
 unfoldable pub upid_bytes : List ℕ → ℕ → List ℕ

@@ -9,46 +9,37 @@ pub use command_questions::{
     command, event_component, insert_component, private_byte, schedule_event,
 };
 pub use descriptor_questions::{audio_component, dtmf_char, segmentation_component};
-use descriptor_reading::{Descriptor, KnownCount, Upid};
-use opening::Opened;
+use descriptor_reading::{Descriptor, Part};
+use units::Refusal;
 
 // How many known descriptors there are; unknown ones are not counted.
-pub fn known_count(section: &[u8]) -> KnownCount
+pub fn known_count(section: &[u8]) -> Result<usize, Refusal>
     ensures { result ≡ says.known_count section.now }
 {
-    match opening::open(section) {
-        Opened::Open(cursor) => KnownCount::Count(known_walk::count(section, cursor)),
-        Opened::Refused(refusal) => KnownCount::Refused(refusal),
-    }
+    Ok(known_walk::count(section, opening::open(section)?))
 }
 
 // Known descriptor n.
-pub fn known_descriptor(section: &[u8], n: usize) -> Descriptor
+pub fn known_descriptor(section: &[u8], n: usize) -> Result<Descriptor, Refusal>
     ensures { result ≡ says.known_descriptor section.now n }
 {
-    match opening::open(section) {
-        Opened::Open(cursor) => descriptor_reading::known_descriptor(section, cursor, n),
-        Opened::Refused(refusal) => Descriptor::Refused(refusal),
-    }
+    descriptor_reading::known_descriptor(section, opening::open(section)?, n)
 }
 
 // Where the UPID bytes of known descriptor n lie, or why there are none.
-pub fn upid(section: &[u8], n: usize) -> Upid
+pub fn upid(section: &[u8], n: usize) -> Result<Part, Refusal>
     ensures { result ≡ says.upid section.now n }
 {
-    match opening::open(section) {
-        Opened::Open(cursor) => descriptor_reading::upid(section, cursor, n),
-        Opened::Refused(refusal) => Upid::Refused(refusal),
-    }
+    descriptor_reading::upid(section, opening::open(section)?, n)
 }
 
 // The UPID bytes of known descriptor n, a part of the section; none where `upid` refuses.
 pub fn upid_bytes<'a>(section: &'a [u8], n: usize) -> &'a [u8]
     ensures { result.now ≡ says.upid_bytes section.now n }
 {
-    let Upid::Part(at, length) = upid(section, n) else {
+    let Ok(part) = upid(section, n) else {
         return &section[..0];
     };
-    let end = at + length;
-    &section[at..end]
+    let end = part.at + part.length;
+    &section[part.at..end]
 }

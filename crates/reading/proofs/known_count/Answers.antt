@@ -1,17 +1,18 @@
 -- `reading::known_count` meets its contract: an open section is asked, any other is refused.
 -- Assumes nothing.
-use mathlib.Core.Path.{ap, sym, ◌∙◌}
-use Rattle.descriptor_reading.specs.declared.answers.KnownCount.{KnownCount}
-use Rattle.reading.specs.Reading.{known_count}
+use mathlib.Core.Path.{sym, ap, ◌∙◌}
+use Rattle.std.specs.Prelude.{Ok}
+use Rattle.std.proofs.lemmas.Result.{err_from_is_err_and}
 use Rattle.opening.proofs.Asked.{when_open, when_refused}
+use Rattle.reading.specs.Reading.{known_count}
 use Rattle.reading.proofs.known_count.Goals as goal
 
-pub returns-in-Open : goal.returns-in-Open
+pub returns-in_err-open : goal.returns-in_err-open
 unfolding known_count
-returns-in-Open c =
-    ap KnownCount.Count c.count.ensures
-    ∙ sym (when_open _ _ _ (sym c.«open».ensures ∙ c.in-Open.is))
+returns-in_err-open c =
+    let refused = err_from_is_err_and c.from_residual.result c.from_residual.ensures.1 in
+    rw (refused.1, refused.2) (sym (when_refused _ _ _ (sym c.«open».ensures ∙ c.in_err-open.was)))
 
-pub returns-in-Refused : goal.returns-in-Refused
+pub returns : goal.returns
 unfolding known_count
-returns-in-Refused c = sym (when_refused _ _ _ (sym c.«open».ensures ∙ c.in-Refused.is))
+returns c = ap Ok c.count.ensures ∙ sym (when_open _ _ _ (sym c.«open».ensures ∙ c.in_ok-open.was))

@@ -14,18 +14,18 @@ returns-in_default c = sym (ap (part_of _) (sym c.upid.ensures ∙ c.in_default.
 
 pub overflow_add-end : goal.overflow_add-end
 overflow_add-end c =
-    let within : c.in-Part.at + c.in-Part.length ≤ length c.args.section.now = part_within _ _ _ _ (sym c.upid.ensures ∙ c.in-Part.is) in
+    let part = c.in-Ok.part in
+    let within : part.at + part.length ≤ length c.args.section.now = part_within _ _ _ _ (sym c.upid.ensures ∙ c.in-Ok.is) in
     omega (arith, within)
 
 pub returns : goal.returns
 unfolding part_of upid_bytes
 returns c =
     let s = c.args.section.now in
-    let at : ℕ = c.in-Part.at in
-    let l : ℕ = c.in-Part.length in
-    let count : at + l - at ≡ l = omega arith in
-    ap (λ (m : ℕ). take m (drop at s)) count
-    ∙ sym (ap (part_of s) (sym c.upid.ensures ∙ c.in-Part.is))
+    let part = c.in-Ok.part in
+    let count : part.at + part.length - part.at ≡ part.length = omega arith in
+    ap (λ (m : ℕ). take m (drop part.at s)) count
+    ∙ sym (ap (part_of s) (sym c.upid.ensures ∙ c.in-Ok.is))
 
 pub slice_bounds-result-end-2 : goal.slice_bounds-result-end-2
-slice_bounds-result-end-2 c = part_within _ _ _ _ (sym c.upid.ensures ∙ c.in-Part.is)
+slice_bounds-result-end-2 c = part_within _ _ _ _ (sym c.upid.ensures ∙ c.in-Ok.is)
