@@ -4,17 +4,13 @@ use Prim.Native.Nat.{◌≤◌}
 use native.Mathlib.Omega.{arith}
 use lib.Dec.{lit≤}
 use lib.ListN.{length, length-append}
-use Rattle.command_reading.specs.declared.answers.Mode.{Mode}
 use Rattle.command_reading.specs.declared.answers.Insert.{Insert}
 use Rattle.command_reading.specs.declared.answers.EventTime.{EventTime}
 use Rattle.command_reading.specs.declared.answers.ScheduledEvent.{ScheduledEvent}
+use Rattle.wire.proofs.Short.{mode_short}
 use Rattle.command_numbers.proofs.Short.{time_short, break_short}
-use Rattle.exports_commands.specs.Commands.{mode_numbers, insert_numbers}
+use Rattle.exports_commands.specs.Commands.{insert_numbers}
 use Rattle.exports_commands.specs.Events.{event_time_numbers, scheduled_numbers}
-
-pub mode_short : (x : Mode) → length (mode_numbers x) ≤ 2
-mode_short Mode.Program = lit≤ tt
-mode_short (Mode.Components n) = lit≤ tt
 
 pub insert_short : (x : Insert) → length (insert_numbers x) ≤ 13
 insert_short x = simp length-append (omega (arith, time_short x.time, mode_short x.mode, break_short x.avails.break_duration))

@@ -1,6 +1,7 @@
 -- What an event of a schedule says as a flat list of numbers, in the manner of a command.
 -- Assumes nothing.
-use Rattle.std.specs.Prelude.{ℕ, List, [], ◌∷◌, ◌++◌}
+use Rattle.std.specs.Prelude.{ℕ, List, [], ◌∷◌, ◌++◌, Result, Ok, Err}
+use Rattle.units.specs.declared.refusals.Refusal.{Refusal}
 use Rattle.units.specs.Refusals.{number_of}
 use Rattle.command_reading.specs.declared.answers.EventTime.{EventTime}
 use Rattle.command_reading.specs.declared.answers.ScheduledEvent.{ScheduledEvent}
@@ -20,7 +21,7 @@ scheduled_numbers e =
     0 ∷ e.splice_event_id.0 ∷ flag_number e.out_of_network_indicator ∷ (event_time_numbers e.time ++ avails_numbers e.avails)
 
 -- an event of a schedule: one that takes place, or the id of a cancelled one
-abbrev pub event_numbers : Event → Numbers
-event_numbers (Event.Scheduled e) = these (scheduled_numbers e)
-event_numbers (Event.Cancelled id) = these (1 ∷ id.0 ∷ [])
-event_numbers (Event.Refused r) = refused (number_of r)
+abbrev pub event_numbers : Result Event Refusal → Numbers
+event_numbers (Ok (Event.Scheduled e)) = these (scheduled_numbers e)
+event_numbers (Ok (Event.Cancelled id)) = these (1 ∷ id.0 ∷ [])
+event_numbers (Err r) = refused (number_of r)

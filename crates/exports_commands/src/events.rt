@@ -1,4 +1,6 @@
 // The events of a splice schedule.
+#![tactic(auto, using(wire::proofs::Given::refusals))]
+
 ghost use Rattle.std.specs.Prelude.{◌≡◌};
 ghost use Rattle.command_questions.specs.Questions as says;
 ghost use Rattle.wire.specs.Wire.{wire};
@@ -7,7 +9,7 @@ ghost use Rattle.exports_commands.specs.Events.{event_numbers, scheduled_numbers
 
 use crate::lists;
 use command_reading::{Event, ScheduledEvent};
-use units::Written;
+use units::Refusal;
 
 // Event n of a splice schedule: its case, and then the values of the case.
 #[unsafe(no_mangle)]
@@ -19,17 +21,16 @@ pub extern "C" fn timpanimist_schedule_event(section: &[u8], n: usize, out: &mut
 }
 
 // An event as numbers, written to the front of out.
-fn schedule_event(answer: Event, out: &mut [u64]) -> Written
+fn schedule_event(answer: Result<Event, Refusal>, out: &mut [u64]) -> Result<usize, Refusal>
     ensures { (result ≡ given (event_numbers answer) out.old) × (out.new ≡ given_into (event_numbers answer) out.old) }
 {
-    match answer {
+    match answer? {
         Event::Scheduled(event) => give_scheduled(event, out),
-        Event::Cancelled(id) => wire::give_two(1, id.0 as u64, out),
-        Event::Refused(refusal) => Written::Refused(refusal),
+        Event::Cancelled(id) => wire::give(&[1, u64::from(id.0)], out),
     }
 }
 
-fn give_scheduled(event: ScheduledEvent, out: &mut [u64]) -> Written
+fn give_scheduled(event: ScheduledEvent, out: &mut [u64]) -> Result<usize, Refusal>
     ensures { (result ≡ given (these (scheduled_numbers event)) out.old) × (out.new ≡ given_into (these (scheduled_numbers event)) out.old) }
 {
     let mut list = [0u64; 11];

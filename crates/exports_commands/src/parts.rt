@@ -1,12 +1,14 @@
 // What commands hold that is asked for by number: components of an insert and of an event, bytes of a private command.
+#![tactic(auto, using(wire::proofs::Given::refusals))]
+
 ghost use Rattle.std.specs.Prelude.{◌≡◌};
 ghost use Rattle.command_questions.specs.Questions as says;
 ghost use Rattle.wire.specs.Wire.{wire};
 ghost use Rattle.wire.specs.Given.{given, given_into};
 ghost use Rattle.exports_commands.specs.Parts.{insert_component_numbers, event_component_numbers, private_byte_numbers};
 
-use command_reading::{EventComponent, InsertComponent, PrivateByte};
-use units::Written;
+use command_reading::{EventComponent, InsertComponent};
+use units::Refusal;
 
 // Component n of a splice insert: its tag, and its time.
 #[unsafe(no_mangle)]
@@ -41,37 +43,35 @@ pub extern "C" fn timpanimist_private_byte(section: &[u8], n: usize, out: &mut [
 }
 
 // A component of an insert as numbers, written to the front of out.
-fn insert_component(answer: InsertComponent, out: &mut [u64]) -> Written
+fn insert_component(
+    answer: Result<InsertComponent, Refusal>,
+    out: &mut [u64],
+) -> Result<usize, Refusal>
     ensures { (result ≡ given (insert_component_numbers answer) out.old) × (out.new ≡ given_into (insert_component_numbers answer) out.old) }
 {
-    match answer {
-        InsertComponent::Component {
-            component_tag,
-            time,
-        } => command_numbers::give_timed(component_tag as u64, time, out),
-        InsertComponent::Refused(refusal) => Written::Refused(refusal),
-    }
+    let InsertComponent {
+        component_tag,
+        time,
+    } = answer?;
+    command_numbers::give_timed(u64::from(component_tag), time, out)
 }
 
 // A component of an event, in the same way.
-fn event_component(answer: EventComponent, out: &mut [u64]) -> Written
+fn event_component(
+    answer: Result<EventComponent, Refusal>,
+    out: &mut [u64],
+) -> Result<usize, Refusal>
     ensures { (result ≡ given (event_component_numbers answer) out.old) × (out.new ≡ given_into (event_component_numbers answer) out.old) }
 {
-    match answer {
-        EventComponent::Component {
-            component_tag,
-            utc_splice_time,
-        } => wire::give_two(component_tag as u64, utc_splice_time as u64, out),
-        EventComponent::Refused(refusal) => Written::Refused(refusal),
-    }
+    let component = answer?;
+    let tag = u64::from(component.component_tag);
+    wire::give(&[tag, u64::from(component.utc_splice_time)], out)
 }
 
 // A byte of a private command, in the same way.
-fn private_byte(answer: PrivateByte, out: &mut [u64]) -> Written
+fn private_byte(answer: Result<u8, Refusal>, out: &mut [u64]) -> Result<usize, Refusal>
     ensures { (result ≡ given (private_byte_numbers answer) out.old) × (out.new ≡ given_into (private_byte_numbers answer) out.old) }
 {
-    match answer {
-        PrivateByte::Byte(byte) => wire::give_one(byte as u64, out),
-        PrivateByte::Refused(refusal) => Written::Refused(refusal),
-    }
+    let byte = answer?;
+    wire::give(&[u64::from(byte)], out)
 }

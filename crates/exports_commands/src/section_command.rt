@@ -1,4 +1,6 @@
 // The command of a section.
+#![tactic(auto, using(wire::proofs::Given::refusals))]
+
 ghost use Rattle.std.specs.Prelude.{◌≡◌};
 ghost use Rattle.command_questions.specs.Questions as says;
 ghost use Rattle.wire.specs.Wire.{wire};
@@ -7,7 +9,7 @@ ghost use Rattle.exports_commands.specs.Commands.{command_numbers, insert_number
 
 use crate::lists;
 use command_reading::{Command, Insert};
-use units::Written;
+use units::Refusal;
 
 // The command of a section, as numbers: its case, and then the values of the case.
 #[unsafe(no_mangle)]
@@ -19,28 +21,25 @@ pub extern "C" fn timpanimist_command(section: &[u8], out: &mut [u64]) -> u64
 }
 
 // A command as numbers, written to the front of out.
-fn command(answer: Command, out: &mut [u64]) -> Written
+fn command(answer: Result<Command, Refusal>, out: &mut [u64]) -> Result<usize, Refusal>
     ensures { (result ≡ given (command_numbers answer) out.old) × (out.new ≡ given_into (command_numbers answer) out.old) }
 {
-    match answer {
-        Command::Null => wire::give_one(0, out),
-        Command::Schedule(splice_count) => wire::give_two(1, splice_count as u64, out),
+    match answer? {
+        Command::Null => wire::give(&[0], out),
+        Command::Schedule(splice_count) => wire::give(&[1, u64::from(splice_count)], out),
         Command::Insert(insert) => give_insert(insert, out),
-        Command::CancelledInsert(id) => wire::give_two(3, id.0 as u64, out),
+        Command::CancelledInsert(id) => wire::give(&[3, u64::from(id.0)], out),
         Command::TimeSignal(time) => command_numbers::give_timed(4, time, out),
-        Command::BandwidthReservation => wire::give_one(5, out),
-        Command::Private(identifier, count) => wire::give_three(
-            6,
-            identifier as u64,
-            count as u64,
+        Command::BandwidthReservation => wire::give(&[5], out),
+        Command::Private(identifier, count) => wire::give(
+            &[6, u64::from(identifier), count as u64],
             out,
         ),
-        Command::Unread => wire::give_one(7, out),
-        Command::Refused(refusal) => Written::Refused(refusal),
+        Command::Unread => wire::give(&[7], out),
     }
 }
 
-fn give_insert(insert: Insert, out: &mut [u64]) -> Written
+fn give_insert(insert: Insert, out: &mut [u64]) -> Result<usize, Refusal>
     ensures { (result ≡ given (these (insert_numbers insert)) out.old) × (out.new ≡ given_into (these (insert_numbers insert)) out.old) }
 {
     let mut list = [0u64; 13];

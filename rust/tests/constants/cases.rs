@@ -79,7 +79,7 @@ fn fits([case, number, then]: &[String; 3], defined: &Case) -> bool {
     let then: Vec<&str> = then.split(", ").filter(|one| !one.is_empty()).collect();
     let fits = |(told, element): (&&str, &Element)| match element {
         Element::Number(number) => **told == number.to_string(),
-        Element::Value(Some(name)) => *told == format!("`{name}`"),
+        Element::Value(Some(name)) => told.eq_ignore_ascii_case(&format!("`{name}`")),
         Element::Value(None) => !told.starts_with('*'),
         Element::Part(definition) => {
             let part = NAMED.iter().find(|named| named.definition == definition);

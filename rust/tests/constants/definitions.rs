@@ -3,6 +3,7 @@
 
 use std::collections::BTreeMap;
 
+use crate::named::case_of;
 use crate::source::{files, text};
 
 #[derive(Clone, Debug, PartialEq, Eq)]
@@ -14,7 +15,7 @@ pub enum Element {
     Part(String),
 }
 
-/// What an answer says in one case of its enum: `Command.Null`.
+/// What an answer says in one case: `Command.Null`, by its enum, or `DashDuration.None`, as the wrapper calls it.
 pub struct Case {
     pub name: String,
     pub list: Vec<Element>,
@@ -31,14 +32,12 @@ pub fn answers() -> Answers {
         if !name.ends_with("_numbers") || name == "avail_numbers" {
             continue;
         }
-        let case = patterns
-            .split(['(', ')', ' '])
-            .find(|word| word.contains('.'));
-        let case = case.unwrap_or("").to_string();
-        if case.ends_with(".Refused") {
+        let words: Vec<&str> = patterns.split(['(', ')', ' ']).collect();
+        if words.contains(&"Err") {
             assert_eq!(body, "refused (number_of r)", "{name}");
             continue;
         }
+        let case = case_of(name, &words);
         let list = elements(&tokens(body));
         found
             .entry(name.to_string())
@@ -143,8 +142,10 @@ fn element(tokens: &[String]) -> Element {
                 !name.is_empty() && name.chars().all(|c| c.is_ascii_lowercase()),
                 "no name: {tokens:?}"
             );
-            // the fields of a value, of which the last with a name is told; `0` is the number in a value of one field
+            // the fields of a value, of which the last with a name is told; `0` is the number in a value of one field,
+            // and a part's place and length are told in words
             let named = parts.rev().find(|field| *field != "0");
+            let named = named.filter(|field| !matches!(*field, "at" | "length"));
             Element::Value(named.map(str::to_string))
         }
         [_, ..] => panic!("no element: {tokens:?}"),

@@ -27,11 +27,10 @@ const fn named(
 }
 
 #[rustfmt::skip]
-pub const NAMED: [Named; 25] = [
+pub const NAMED: [Named; 24] = [
     named("command_numbers", "command", Some("COMMAND_"), Some("COMMAND")),
     named("time_numbers", "time", Some("TIME_"), None),
     named("mode_numbers", "mode", Some("MODE_"), None),
-    named("segmented_numbers", "mode", Some("MODE_"), None),
     named("break_numbers", "break_duration", Some(""), None),
     named("insert_component_numbers", "insert component", None, Some("INSERT_COMPONENT")),
     named("event_numbers", "event", Some("EVENT_"), Some("SCHEDULE_EVENT")),
@@ -56,6 +55,36 @@ pub const NAMED: [Named; 25] = [
     // READINGS has its three numbers in words, and the header's limit is TURN
     Named { definition: "turn_numbers", page: None, header: None, limit: None },
 ];
+
+/// What the cases are called that are an `Option` or a flag in the definitions: `None` or `false`, and `Some` or `true`.
+#[rustfmt::skip]
+const OPTIONAL: [(&str, &str, &str); 8] = [
+    ("break_numbers", "BreakDuration.Absent", "BreakDuration.Present"),
+    ("delivery_numbers", "Delivery.NotRestricted", "Delivery.Restricted"),
+    ("duration_numbers", "Duration.Absent", "Duration.Present"),
+    ("sub_segment_numbers", "SubSegments.Absent", "SubSegments.Present"),
+    ("effective_time_numbers", "EffectiveTime.None", "EffectiveTime.At"),
+    ("dvb_numbers", "Dvb.No", "Dvb.Yes"),
+    ("dash_duration_numbers", "DashDuration.None", "DashDuration.Measured"),
+    ("label_numbers", "Label.House", "Label.Upid"),
+];
+
+/// The case of a definition that has these words for a pattern: one of an enum has its name there, an answer of one case
+/// is `Ok`, and a part of others has none.
+pub fn case_of(definition: &str, words: &[&str]) -> String {
+    if let Some(case) = words.iter().find(|word| word.contains('.')) {
+        return case.to_string();
+    }
+    let is = |one: &str, other: &str| words.contains(&one) || words.contains(&other);
+    let (absent, present) = (is("None", "false"), is("Some", "true"));
+    if absent || present {
+        let named = OPTIONAL.iter().find(|(name, _, _)| *name == definition);
+        let (_, no, yes) = named.unwrap_or_else(|| panic!("{definition} has cases without names"));
+        return if absent { no } else { yes }.to_string();
+    }
+    let answered = if words.contains(&"Ok") { "Ok" } else { "" };
+    answered.to_string()
+}
 
 /// Cases that the header and the page do not call as the definitions do.
 const OTHERWISE: [(&str, &str, &str); 6] = [

@@ -1,29 +1,25 @@
 -- `exports_commands::lists::scheduled` meets its contract: three numbers and then its parts, each of which leaves room for the next.
 -- Assumes nothing.
-use mathlib.Core.Path.{ap}
+use mathlib.Core.Path.{◌≡◌}
 use mathlib.Core.List.{[], ◌∷◌}
-use Prim.Native.Nat.{ℕ, ◌+◌, ◌≤◌}
 use native.Mathlib.Omega.{arith}
-use lib.ListN.{length}
-use Rattle.wire.proofs.Placed.{stands, told, both, as_long, room}
-use Rattle.command_numbers.proofs.Short.{avails_short}
+use lib.ListN.{length-append}
+use Rattle.std.proofs.Common.{append_assoc}
+use Rattle.wire.specs.Wire.{flag_number}
+use Rattle.wire.proofs.Placed.{stands, put_as, behind, told}
+use Rattle.command_numbers.specs.Numbers.{avails_numbers}
+use Rattle.command_numbers.proofs.Short.{break_short}
+use Rattle.exports_commands.specs.Events.{event_time_numbers}
 use Rattle.exports_commands.proofs.Short.{event_time_short}
 use Rattle.exports_commands.proofs.lists.scheduled.Goals as goal
 
-pub event_time-n-requires : goal.event_time-n-requires
-event_time-n-requires c =
-    let left-put : c.put-n.result + 8 ≤ length c.put-n.new.list = room 3 8 (stands (omega arith) c.put-n.ensures) (omega arith) (omega arith) in
-    let left = left-put in
-    omega arith
-
 pub returns : goal.returns
 returns c =
-    let left-put : c.put-n.result + 8 ≤ length c.put-n.new.list = room 3 8 (stands (omega arith) c.put-n.ensures) (omega arith) (omega arith) in
-    let left-event-time : c.event_time-n.result + 6 ≤ length c.event_time-n.new.list = let a = c.args in
-    room 2 6 c.event_time-n.ensures (event_time_short a.x.time) (left-put) in
-    let a = c.args in
-    both (told (ap (λ (v : ℕ). 0 ∷ a.x.splice_event_id.0 ∷ v ∷ []) c.flag.ensures) (stands (omega arith) c.put-n.ensures))
-    (both c.event_time-n.ensures (stands (omega (arith, left-event-time, avails_short a.x.avails)) c.avails.ensures))
-
-pub shape_of-list : goal.shape_of-list
-shape_of-list c = as_long (returns c)
+    let x = c.args.x in
+    let time = event_time_short x.time in
+    let break = break_short x.avails.break_duration in
+    let head : (0 ∷ c.from.result ∷ c.flag.result ∷ []) ≡ (0 ∷ x.splice_event_id.0 ∷ flag_number x.out_of_network_indicator ∷ []) = cc in
+    let p1 = stands {m = c.args.list.now} (omega arith) (put_as _ _ head c.put-n.ensures) in
+    let p2 = behind (event_time_numbers x.time) p1 (simp length-append (omega arith)) c.event_time-n.ensures in
+    let p3 = behind (avails_numbers x.avails) p2 (simp length-append (omega arith)) c.avails.ensures in
+    told (simp append_assoc) p3
