@@ -11,4 +11,4 @@ use Rattle.commands.proofs.insert_components.Goals as goal
 pub parts-requires : goal.parts-requires
 parts-requires c κs =
     let known : Env = ("splice_immediate_flag", c.args.splice_immediate_flag) ∷ [] in
-    ((refl, tt), (search (rules, of_calls), λ one next e. search (rules, ends_inside insert_component known one next)))
+    ((refl, tt), (search (rules, of_calls), λ one next e. ends_inside insert_component known one next (search rules)))

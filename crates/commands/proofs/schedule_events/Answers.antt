@@ -8,4 +8,4 @@ use Rattle.commands.proofs.Lists.{ends_inside}
 use Rattle.commands.proofs.schedule_events.Goals as goal
 
 pub parts-requires : goal.parts-requires
-parts-requires c κs = ((refl, tt), (search (rules, of_calls), λ one next e. search (rules, ends_inside schedule_event [] one next)))
+parts-requires c κs = ((refl, tt), (search (rules, of_calls), λ one next e. ends_inside schedule_event [] one next (search rules)))
