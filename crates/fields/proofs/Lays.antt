@@ -8,7 +8,7 @@ use native.Mathlib.Omega.{arith}
 use Prim.Native.String.{String}
 use Rattle.grammar.specs.Syntax.{Item, Test, Prog, done, stop, fields, branch, call, repeat, frame, fill, under}
 use Rattle.grammar.specs.Meaning.{Env, value_of, holds}
-use Rattle.fields.specs.Fields.{Source, Plan, laid, widths_of, names, times_on, sweep_on, walk, Lays}
+use Rattle.fields.specs.Fields.{Source, Plan, laid, widths_of, names, times_on, sweep_on, walk, roomy, kept, Lays}
 
 pub finished : {env : Env} {v : Source} {end : ℕ} {π ρ : Plan} → π ≡ ρ → Lays done env v end π ρ
 unfolding walk
@@ -98,6 +98,11 @@ pub filled : {a p : Prog} {env : Env} {v : Source} {end : ℕ} {π σ ρ : Plan}
     → Lays p env v end σ ρ → Lays (fill a p) env v end π ρ
 unfolding walk
 filled {a} {p} {env} {v} {end} x y = record { lays = ap (walk p env v end) x ∙ y.lays }
+
+-- what is laid out where there is room
+pub lays_kept : {p : Prog} {env : Env} {v : Source} {end : ℕ} {π ρ : Plan} → roomy π ≡ true → Lays p env v end π ρ → ρ ≡ kept (walk p env v end) π
+unfolding kept
+lays_kept {p} {env} {v} {end} {π} r l = sym (ap (λ (b : Bool). cond b (walk p env v end π) π) r ∙ l.lays)
 
 -- ---- so many times, one by one
 

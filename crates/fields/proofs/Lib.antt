@@ -6,3 +6,4 @@ pub mod Below
 pub mod Descents
 pub mod Sweeps
 pub mod Room
+pub mod Entry

@@ -93,11 +93,19 @@ bytes_to end π = sweep_on (end - π.at) (laid (8 ∷ [])) end π
 unfoldable pub roomy : Plan → Bool
 roomy π = leb (length π.widths) 32768 && (leb π.number (length π.widths) && leb π.at (104 + 255 * π.number))
 
+-- what is made of a plan that has room; any other stays as it is
+unfoldable pub kept : (Plan → Plan) → Plan → Plan
+kept g π = cond (roomy π) (g π) π
+
+-- ---- for private functions
+
 -- the facts that `roomy` tests
 abbrev pub Has : Plan → Type 0
 Has π = (π.number ≤ length π.widths) × (π.at ≤ 104 + 255 * π.number) × (length π.widths ≤ 32768)
 
--- ---- for the functions of tables
+-- the same of a place, and the memory beside it
+abbrev pub Room : Place → List ℕ → Type 0
+Room p m = Has (plan p m)
 
 -- p lays out ρ from π on
 pub record Lays (p : Prog) (env : Env) (v : Source) (end : ℕ) (π ρ : Plan) : Type 0 where

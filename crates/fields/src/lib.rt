@@ -4,7 +4,7 @@
 
 ghost use Rattle.std.specs.Prelude.{◌≡◌, ◌+◌, ◌*◌, ◌≤◌, length};
 ghost use Rattle.fields.specs.Fields as defined;
-ghost use Rattle.fields.specs.Fields.{plan, laid, times_on, bytes_to, roomy};
+ghost use Rattle.fields.specs.Fields.{plan, laid, times_on, bytes_to, roomy, kept};
 
 use units::MOST_FIELDS;
 
@@ -75,7 +75,17 @@ pub struct Fields<'a> {
 }
 
 impl Fields<'_> {
-    ghost use Rattle.fields.specs.SoFar.{so_far, SameMemory};
+    ghost use Rattle.fields.specs.SoFar.{so_far, after, SameMemory};
+
+    // The bit after them, and how many they are.
+    pub fn place(&self) -> Place
+        ensures { result ≡ after self.now }
+    {
+        Place {
+            at: self.at,
+            number: self.number,
+        }
+    }
 
     // Fields of these widths more, where the memory has room for them all.
     pub fn lay(&mut self, more: &[u8])
@@ -118,4 +128,52 @@ impl Fields<'_> {
         }
         self.groups(((end - at - 1) / 8 + 1) as u64, &[8]);
     }
+}
+
+// Fields of these widths from a place on, where the memory has room for the place and for them all.
+pub fn group(widths: &mut [u8], p: Place, more: &[u8]) -> Place
+    ensures { plan result widths.new ≡ kept (laid more.now) (plan p widths.old) }
+{
+    if !has_room(widths, p) {
+        return p;
+    }
+    let mut fields = Fields {
+        widths,
+        at: p.at,
+        number: p.number,
+    };
+    fields.lay(more);
+    fields.place()
+}
+
+// So many such groups.
+pub fn groups(widths: &mut [u8], p: Place, count: u64, more: &[u8]) -> Place
+    ensures { plan result widths.new ≡ kept (times_on count (laid more.now)) (plan p widths.old) }
+{
+    if !has_room(widths, p) {
+        return p;
+    }
+    let mut fields = Fields {
+        widths,
+        at: p.at,
+        number: p.number,
+    };
+    fields.groups(count, more);
+    fields.place()
+}
+
+// Bytes from a place up to the end of the part.
+pub fn bytes(widths: &mut [u8], p: Place, end: usize) -> Place
+    ensures { plan result widths.new ≡ kept (bytes_to end) (plan p widths.old) }
+{
+    if !has_room(widths, p) {
+        return p;
+    }
+    let mut fields = Fields {
+        widths,
+        at: p.at,
+        number: p.number,
+    };
+    fields.bytes(end);
+    fields.place()
 }

@@ -7,10 +7,10 @@ ghost use Rattle.grammar.specs.Syntax.{stop};
 ghost use Rattle.grammar.specs.Meaning.{Env, value_of};
 ghost use Rattle.grammar.specs.Tables.{bytes, splice_time, avails, insert_component, insert_times, splice_insert, schedule_times, schedule_event, splice_schedule, private_command, sized_command};
 ghost use Rattle.commands.specs.Command.{table_of};
-ghost use Rattle.fields.specs.Fields.{Source, times_on, walk, Lays};
+ghost use Rattle.fields.specs.Fields.{Source, plan, times_on, walk, kept, Lays};
 ghost use Rattle.fields.specs.SoFar.{given, so_far, SameMemory};
 
-use fields::{Fields, Numbers};
+use fields::{Fields, Numbers, Place};
 
 // Table 14.
 fn splice_time(numbers: Numbers, fields: &mut Fields)
@@ -179,7 +179,7 @@ fn command(numbers: Numbers, fields: &mut Fields, end: usize, splice_command_typ
 }
 
 // The command within splice_command_length; 0xFFF leaves the end to the table.
-pub fn sized_command(
+fn command_within(
     numbers: Numbers,
     fields: &mut Fields,
     splice_command_type: u64,
@@ -194,4 +194,31 @@ pub fn sized_command(
     }
     let end = fields.at + 8 * (splice_command_length as usize);
     command(numbers, fields, end, splice_command_type, true);
+}
+
+// The same from a place on, where the memory has room for it.
+pub fn sized_command(
+    numbers: Numbers,
+    widths: &mut [u8],
+    p: Place,
+    splice_command_type: u64,
+    splice_command_length: u16,
+) -> Place
+    ensures { (env : Env) (end : ℕ) → value_of env "splice_command_type" ≡ splice_command_type → value_of env "splice_command_length" ≡ splice_command_length → plan result widths.new ≡ kept (walk sized_command env (given numbers.entry) end) (plan p widths.old) }
+{
+    if !fields::has_room(widths, p) {
+        return p;
+    }
+    let mut fields = Fields {
+        widths,
+        at: p.at,
+        number: p.number,
+    };
+    command_within(
+        numbers,
+        &mut fields,
+        splice_command_type,
+        splice_command_length,
+    );
+    fields.place()
 }

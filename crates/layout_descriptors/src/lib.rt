@@ -5,10 +5,10 @@
 ghost use Rattle.std.specs.Prelude.{◌≡◌, ℕ, ◌-◌};
 ghost use Rattle.grammar.specs.Meaning.{Env, value_of};
 ghost use Rattle.grammar.specs.Tables.{bytes, dtmf_descriptor, delivery, segmentation_components, segmentation_end, segmentation_descriptor, audio_descriptor, known_descriptor, splice_descriptor, descriptor_loop};
-ghost use Rattle.fields.specs.Fields.{Source, sweep_on, walk, Lays};
+ghost use Rattle.fields.specs.Fields.{Source, plan, sweep_on, walk, kept, Lays};
 ghost use Rattle.fields.specs.SoFar.{given, so_far, SameMemory};
 
-use fields::{Fields, Numbers};
+use fields::{Fields, Numbers, Place};
 
 // Table 19, after the identifier.
 fn dtmf_descriptor(numbers: Numbers, fields: &mut Fields)
@@ -141,7 +141,7 @@ fn splice_descriptors(numbers: Numbers, fields: &mut Fields, end: usize)
 }
 
 // Table 5, from descriptor_loop_length on.
-pub fn descriptor_loop(numbers: Numbers, fields: &mut Fields)
+fn whole_loop(numbers: Numbers, fields: &mut Fields)
     ensures lays { (env : Env) (end : ℕ) → Lays descriptor_loop env (given numbers.entry) end (so_far fields.old) (so_far fields.new) }
     ensures memory { SameMemory fields.old fields.new }
 {
@@ -149,4 +149,20 @@ pub fn descriptor_loop(numbers: Numbers, fields: &mut Fields)
     fields.lay(&[16]);
     let end = fields.at + 8 * (descriptor_loop_length as usize);
     splice_descriptors(numbers, fields, end);
+}
+
+// The same from a place on, where the memory has room for it.
+pub fn descriptor_loop(numbers: Numbers, widths: &mut [u8], p: Place) -> Place
+    ensures { (env : Env) (end : ℕ) → plan result widths.new ≡ kept (walk descriptor_loop env (given numbers.entry) end) (plan p widths.old) }
+{
+    if !fields::has_room(widths, p) {
+        return p;
+    }
+    let mut fields = Fields {
+        widths,
+        at: p.at,
+        number: p.number,
+    };
+    whole_loop(numbers, &mut fields);
+    fields.place()
 }

@@ -22,7 +22,7 @@ module _ {r : ℕ} (s x : List ℕ) (π : Plan) where
   numbers h e = rw h e
 
 pub returns-then-is_empty : goal.returns-then-is_empty
-returns-then-is_empty c = bits _ c.args.numbers.sheet.now _ (sym c.is_empty.ensures ∙ c.if-is_empty.true) (omega arith)
+returns-then-is_empty c = λ m. bits _ c.args.numbers.sheet.now _ (sym c.is_empty.ensures ∙ c.if-is_empty.true) (omega arith)
 
 pub returns-else-is_empty : goal.returns-else-is_empty
-returns-else-is_empty c = numbers c.args.numbers.section.now _ _ (sym c.is_empty.ensures ∙ c.if-is_empty.false) (omega arith)
+returns-else-is_empty c = λ m. numbers c.args.numbers.section.now _ _ (sym c.is_empty.ensures ∙ c.if-is_empty.false) (omega arith)

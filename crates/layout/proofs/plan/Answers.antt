@@ -1,94 +1,83 @@
 -- `layout::plan` meets its contract: the header, then what is sealed, or the tables up to the loop and the stuffing.
 -- Assumes nothing.
-use mathlib.Core.Path.{◌≡◌, refl, sym, ap, ◌∙◌}
-use mathlib.Core.Bool.{Bool, true, false, cond, ◌&&◌}
+use mathlib.Core.Path.{◌≡◌, refl, sym, ap, ap₂, ◌∙◌}
+use mathlib.Core.Bool.{Bool, cond}
 use mathlib.Core.List.{List, [], ◌∷◌}
-use Prim.Native.Nat.{ℕ, ◌≤◌}
+use Prim.Native.Nat.{ℕ, ◌≤◌, ◌<◌}
 use native.Mathlib.Omega.{arith}
 use lib.ListN.{length}
-use lib.Dec.{leb, eqb}
-use borrow.Author.Rules.{rules}
-use borrow.Author.Tests.{eq-eqb, ne_eqb, le-leb}
-use Rattle.fields.specs.declared.Fields.{Fields}
-use Rattle.fields.specs.Fields.{Plan, source, laid, times_on, walk, roomy}
-use Rattle.fields.specs.SoFar.{so_far, SameMemory}
-use Rattle.fields.proofs.Room.{has_room}
+use lib.Dec.{eqb}
+use borrow.Author.Tests.{eq-eqb, ne_eqb, le-leb, lt-leb}
+use Rattle.fields.specs.Fields.{Plan, source, laid, times_on, walk, Has, Room}
+use Rattle.fields.proofs.Room.{group_in, groups_in}
 use Rattle.layout.specs.Layout.{begun, opening, left, rest, plan_of}
+use Rattle.layout.specs.Layout
 use Rattle.layout.proofs.plan.Goals as goal
-use Rattle.layout.proofs.plan.Goals.{then-encrypted_packet-ne1, else-encrypted_packet-ne1}
 
--- before the header
-abbrev start : List ℕ → Plan
-start m = record { at = 12; number = 0; widths = m }
+-- so many bytes as are left
+ended : (s x : List ℕ) {n : ℕ} {π σ ρ : Plan} → ρ ≡ times_on n (laid (8 ∷ [])) π → n ≡ left s x π → π ≡ σ → ρ ≡ rest s x σ
+unfolding rest
+ended s x {π = π} e h q = e ∙ ap (λ (n : ℕ). times_on n (laid (8 ∷ [])) π) h ∙ ap (rest s x) q
 
-and_true : (b : Bool) → (b && true) ≡ b
-and_true true = refl
-and_true false = refl
-
-room : (m : List ℕ) → roomy (start m) ≡ leb (length m) 32768
-unfolding roomy
-room m = let none : 0 ≤ length m = omega arith in ap (λ (b : Bool). leb (length m) 32768 && (b && true)) (le-leb 0 (length m) none) ∙ and_true (leb (length m) 32768)
-
--- the fields after the header; those before what is left; too much memory, and all fields
+-- too much memory; sealed; not sealed
 module _ (s x m : List ℕ) where
   abbrev tables : Plan
   tables = walk opening (("splice_command_length", source s x 92 10 12) ∷ []) (source s x) 0 (begun m)
 
   abbrev all : Bool → Bool → Plan
-  all short sealed = cond short (rest s x (cond sealed (begun m) tables)) (record { at = 0; number = 0; widths = m })
+  all short b = cond short (rest s x (cond b (begun m) tables)) (record { at = 0; number = 0; widths = m })
 
-  unused : roomy (start m) ≡ false → record { at = 0; number = 0; widths = m } ≡ plan_of s x m
+  unused : 32768 < length m → record { at = 0; number = 0; widths = m } ≡ plan_of s x m
   unfolding plan_of
-  unused h = sym (ap (λ (b : Bool). all b (eqb (source s x 32 5 1) 1)) (sym (room m) ∙ h))
+  unused h = sym (ap (λ (b : Bool). all b (eqb (source s x 32 5 1) 1)) (lt-leb (length m) 32768 h))
 
-  used : {n : ℕ} {σ ρ : Plan} → roomy (start m) ≡ true → n ≡ left s x σ → ρ ≡ times_on n (laid (8 ∷ [])) σ
-      → σ ≡ cond (eqb (source s x 32 5 1) 1) (begun m) tables → ρ ≡ plan_of s x m
-  unfolding plan_of rest
-  used {n} {σ} h e q t =
-      q ∙ ap (λ (i : ℕ). times_on i (laid (8 ∷ [])) σ) e ∙ ap (rest s x) t
-      ∙ sym (ap (λ (b : Bool). all b (eqb (source s x 32 5 1) 1)) (sym (room m) ∙ h))
+  sealed : {n : ℕ} {ρ : Plan} → length m ≤ 32768 → n ≡ source s x 32 5 1 → n ≡ 1 → ρ ≡ rest s x (begun m) → ρ ≡ plan_of s x m
+  unfolding plan_of
+  sealed l e h q = q ∙ sym (ap₂ all (le-leb (length m) 32768 l) (eq-eqb (source s x 32 5 1) 1 (sym e ∙ h)))
 
-  sealed : {n : ℕ} {σ : Plan} → n ≡ source s x 32 5 1 → n ≡ 1 → σ ≡ begun m → σ ≡ cond (eqb (source s x 32 5 1) 1) (begun m) tables
-  sealed e h q = q ∙ sym (ap (λ (b : Bool). cond b (begun m) tables) (eq-eqb (source s x 32 5 1) 1 (sym e ∙ h)))
+  unsealed : {n : ℕ} {ρ : Plan} → length m ≤ 32768 → n ≡ source s x 32 5 1 → (n ≡ 1 → ⊥) → ρ ≡ rest s x tables → ρ ≡ plan_of s x m
+  unfolding plan_of
+  unsealed l e h q = q ∙ sym (ap₂ all (le-leb (length m) 32768 l) (ne_eqb (source s x 32 5 1) 1 (λ z. h (e ∙ z))))
 
-  unsealed : {n : ℕ} {σ : Plan} → n ≡ source s x 32 5 1 → (n ≡ 1 → ⊥) → σ ≡ tables → σ ≡ cond (eqb (source s x 32 5 1) 1) (begun m) tables
-  unsealed e h q = q ∙ sym (ap (λ (b : Bool). cond b (begun m) tables) (ne_eqb (source s x 32 5 1) 1 (λ z. h (e ∙ z))))
+-- there is room before the header and after it
+at_start : (m : List ℕ) → length m ≤ 32768 → Has (record { at = 12; number = 0; widths = m })
+at_start m h = (omega arith, omega arith, h)
 
-  -- the widths are those that are left behind
-  written : (f : Fields) {w : List ℕ} → w ≡ f.widths.now → so_far f ≡ plan_of s x m → record { at = f.at; number = f.number; widths = w } ≡ plan_of s x m
-  written f e q = ap (λ (l : List ℕ). record { at = f.at; number = f.number; widths = l }) e ∙ q
-
-pub returns-then-not-has_room : goal.returns-then-not-has_room
-returns-then-not-has_room c =
+pub returns-then-widths-gt-MOST_FIELDS : goal.returns-then-widths-gt-MOST_FIELDS
+returns-then-widths-gt-MOST_FIELDS c =
     let a = c.args in
-    unused a.section.now a.sheet.now a.widths.now (sym c.has_room.ensures ∙ c.if-not-has_room.true)
+    unused a.section.now a.sheet.now a.widths.now c.if-widths-gt-MOST_FIELDS.true
 
-pub invariant_of-fields : goal.invariant_of-fields
-invariant_of-fields c =
-    let there = has_room (start c.args.widths.now) (sym c.has_room.ensures ∙ c.if-not-has_room.false) in
-    record { fits = there.0; reached = there.1; short = there.2 }
+pub returns-then-encrypted_packet-eq1 : goal.returns-then-encrypted_packet-eq1
+unfolding begun
+returns-then-encrypted_packet-eq1 c =
+    let room-group : Room c.group-header.result c.group-header.new.widths = (group_in _ _ refl (at_start c.args.widths.now c.if-widths-gt-MOST_FIELDS.false) c.group-header.ensures).1 in
+    let groups = (groups_in _ _ _ refl (room-group) c.groups.ensures).0 in
+    let left = c.left-count in
+    let if2 = c.if-encrypted_packet-eq1 in
+    let value = c.value-encrypted_packet in
+    let if1 = c.if-widths-gt-MOST_FIELDS in
+    let a = c.args in
+    let group = (group_in _ _ refl (at_start a.widths.now if1.false) c.group-header.ensures).0 in
+    sealed a.section.now a.sheet.now a.widths.now if1.false value.ensures if2.true
+    (ended a.section.now a.sheet.now groups (left.ensures _) group)
+
+pub opening-stuffing-requires : goal.opening-stuffing-requires
+opening-stuffing-requires c =
+    let room-group : Room c.group-header.result c.group-header.new.widths = (group_in _ _ refl (at_start c.args.widths.now c.if-widths-gt-MOST_FIELDS.false) c.group-header.ensures).1 in
+    room-group
 
 pub returns : goal.returns
 unfolding begun
 returns c =
+    let left2 = c.left-count-2 in
+    let opening = c.opening-stuffing in
+    let if2 = c.if-encrypted_packet-eq1 in
+    let value = c.value-encrypted_packet in
+    let if1 = c.if-widths-gt-MOST_FIELDS in
     let a = c.args in
-    let s = a.section.now in
-    let x = a.sheet.now in
-    let m = a.widths.now in
-    let after = c.if-encrypted_packet-ne1.fields in
-    let memory : SameMemory c.lay.new.self after =
-    elim c.if-encrypted_packet-ne1.branch [
-      | then-encrypted_packet-ne1 w ↦ ap (λ (f : Fields). f.widths.ghost_name) w.fields-is ∙ w.opening.ensures.memory
-      | else-encrypted_packet-ne1 w ↦ ap (λ (f : Fields). f.widths.ghost_name) w.fields-is
-    ] in
-    let laid : so_far after ≡ cond (eqb (source s x 32 5 1) 1) (begun m) (tables s x m) =
-    elim c.if-encrypted_packet-ne1.branch [
-      | then-encrypted_packet-ne1 w ↦
-          unsealed s x m c.value-encrypted_packet.ensures w.if-encrypted_packet-ne1.true
-          (ap so_far w.fields-is ∙ sym (w.opening.ensures.lays _ 0 refl).lays ∙ ap (walk opening _ _ 0) c.lay.ensures.plan)
-      | else-encrypted_packet-ne1 w ↦
-          sealed s x m c.value-encrypted_packet.ensures w.if-encrypted_packet-ne1.false (ap so_far w.fields-is ∙ c.lay.ensures.plan)
-    ] in
-    let same = sym c.lay.ensures.memory ∙ sym memory ∙ sym c.groups.ensures.memory in
-    written s x m c.groups.new.self (search rules)
-    (used s x m (sym c.has_room.ensures ∙ c.if-not-has_room.false) c.left-count.ensures c.groups.ensures.plan laid)
+    let group = (group_in _ _ refl (at_start a.widths.now if1.false) c.group-header.ensures).0 in
+    let groups2 = (groups_in _ _ _ refl opening.ensures.1 c.groups-2.ensures).0 in
+    let loop = sym (opening.ensures.0 (("splice_command_length", source a.section.now a.sheet.now 92 10 12) ∷ []) 0 refl).lays in
+    unsealed a.section.now a.sheet.now a.widths.now if1.false value.ensures if2.false
+    (ended a.section.now a.sheet.now groups2 (left2.ensures _) (loop ∙ ap (walk Layout.opening _ _ 0) group))

@@ -1,26 +1,22 @@
--- `layout_commands::sized_command` meets its contract: the command alone, or in a part of the length that the header gives.
+-- `layout_commands::sized_command` meets its contract: where there is room for the place, the fields there lay out the command.
 -- Assumes nothing.
-use mathlib.Core.Path.{refl, sym, ap, ◌∙◌}
-use mathlib.Core.Bool.{false≢true}
-use Prim.Native.Nat.{ℕ, ◌+◌, ◌*◌}
-use borrow.Author.Tests.{eq-eqb, ne_eqb}
-use Rattle.grammar.specs.Syntax.{stop}
-use Rattle.grammar.specs.Tables.{bytes, private_command, sized_command}
-use Rattle.fields.proofs.Lays.{finished, yes_last, no_last, framed}
-use Rattle.layout_commands.proofs.Types.{by_type}
+use mathlib.Core.Path.{sym, ◌∙◌}
+use borrow.Author.Rules.{rules}
+use Rattle.fields.specs.Fields.{plan}
+use Rattle.fields.proofs.Room.{has_room, kept_out}
+use Rattle.fields.proofs.Entry.{entered}
 use Rattle.layout_commands.proofs.sized_command.Goals as goal
 
-pub returns-then-splice_command_length-eq4095-clause-lays : goal.returns-then-splice_command_length-eq4095-clause-lays
-unfolding sized_command
-returns-then-splice_command_length-eq4095-clause-lays c =
-    λ env end t l.
-    yes_last (eq-eqb _ 0xFFF (l ∙ c.if-splice_command_length-eq4095.true))
-    (by_type stop stop t (c.command.ensures.lays env end (λ q. absurd (false≢true q))))
+pub returns-then-not-has_room : goal.returns-then-not-has_room
+returns-then-not-has_room c = λ env end t l. sym (kept_out _ _ (sym c.has_room.ensures ∙ c.if-not-has_room.true))
 
-pub returns-clause-lays : goal.returns-clause-lays
-unfolding sized_command
-returns-clause-lays c =
-    λ env end t l.
-    no_last (ne_eqb _ 0xFFF (λ q. c.if-splice_command_length-eq4095.false (sym l ∙ q)))
-    (framed _ (ap (λ (n : ℕ). c.args.fields.now.at + 8 * n) l)
-    (by_type private_command (bytes "command_byte") t (c.command-2.ensures.lays env _ (λ q. refl))) (finished refl))
+pub invariant_of-fields : goal.invariant_of-fields
+invariant_of-fields c =
+    let there = has_room (plan c.args.p c.args.widths.now) (sym c.has_room.ensures ∙ c.if-not-has_room.false) in
+    record { fits = there.0; reached = there.1; short = there.2 }
+
+pub returns : goal.returns
+returns c =
+    let same = sym c.command_within.ensures.memory in
+    λ env end t l. entered _ _ c.command_within.new.fields (sym c.has_room.ensures ∙ c.if-not-has_room.false) c.place.ensures (search rules)
+    (sym (c.command_within.ensures.lays env end t l).lays)

@@ -1,23 +1,22 @@
--- `layout_descriptors::descriptor_loop` meets its contract: the part that descriptor_loop_length gives, full of descriptors.
+-- `layout_descriptors::descriptor_loop` meets its contract: where there is room for the place, the fields there lay out the loop.
 -- Assumes nothing.
-use mathlib.Core.Path.{refl, sym, ap}
-use Prim.Native.Nat.{ℕ, ◌+◌, ◌*◌}
-use native.Mathlib.Omega.{arith}
-use Rattle.grammar.specs.Tables.{descriptor_loop}
-use Rattle.fields.proofs.Below.{below}
-use Rattle.fields.proofs.Lays.{finished, pass, ruled, framed, filled}
+use mathlib.Core.Path.{sym, ◌∙◌}
+use borrow.Author.Rules.{rules}
+use Rattle.fields.specs.Fields.{plan}
+use Rattle.fields.proofs.Room.{has_room, kept_out}
+use Rattle.fields.proofs.Entry.{entered}
 use Rattle.layout_descriptors.proofs.descriptor_loop.Goals as goal
 
-pub overflow_mul-end : goal.overflow_mul-end
-overflow_mul-end c = omega (arith, below _ _ _ _ _ c.value-descriptor_loop_length.ensures)
+pub returns-then-not-has_room : goal.returns-then-not-has_room
+returns-then-not-has_room c = λ env end. sym (kept_out _ _ (sym c.has_room.ensures ∙ c.if-not-has_room.true))
 
-pub overflow_add-end : goal.overflow_add-end
-overflow_add-end c = omega (arith, below _ _ _ _ _ c.value-descriptor_loop_length.ensures)
+pub invariant_of-fields : goal.invariant_of-fields
+invariant_of-fields c =
+    let there = has_room (plan c.args.p c.args.widths.now) (sym c.has_room.ensures ∙ c.if-not-has_room.false) in
+    record { fits = there.0; reached = there.1; short = there.2 }
 
-pub returns-clause-lays : goal.returns-clause-lays
-unfolding descriptor_loop
-returns-clause-lays c =
-    λ env end.
-    pass c.lay.ensures.plan
-    (framed _ (ap (λ (n : ℕ). c.lay.new.self.at + 8 * n) (sym c.value-descriptor_loop_length.ensures))
-    (ruled (filled (c.splice_descriptors.ensures.lays _) (finished refl)) (finished refl)) (finished refl))
+pub returns : goal.returns
+returns c =
+    let same = sym c.whole_loop.ensures.memory in
+    λ env end. entered _ _ c.whole_loop.new.fields (sym c.has_room.ensures ∙ c.if-not-has_room.false) c.place.ensures (search rules)
+    (sym (c.whole_loop.ensures.lays env end).lays)
