@@ -1,12 +1,14 @@
 // What known descriptors hold that is asked for by number: characters and components, and where a UPID lies.
+#![tactic(auto, using(wire::proofs::Given::refusals))]
+
 ghost use Rattle.std.specs.Prelude.{◌≡◌};
 ghost use Rattle.reading.specs.Reading as says;
 ghost use Rattle.wire.specs.Wire.{wire};
 ghost use Rattle.wire.specs.Given.{given, given_into};
 ghost use Rattle.exports_descriptors.specs.Parts.{dtmf_char_numbers, segmentation_component_numbers, audio_component_numbers, upid_numbers};
 
-use descriptor_reading::{AudioComponent, DtmfChar, SegmentationComponent, Upid};
-use units::Written;
+use descriptor_reading::{AudioComponent, Part, SegmentationComponent};
+use units::Refusal;
 
 // Character m of known descriptor n, a DTMF descriptor.
 #[unsafe(no_mangle)]
@@ -55,59 +57,49 @@ pub extern "C" fn timpanimist_upid(section: &[u8], n: usize, out: &mut [u64]) ->
 }
 
 // A character of a DTMF descriptor as a number, written to the front of out.
-fn dtmf_char(answer: DtmfChar, out: &mut [u64]) -> Written
+fn dtmf_char(answer: Result<u8, Refusal>, out: &mut [u64]) -> Result<usize, Refusal>
     ensures { (result ≡ given (dtmf_char_numbers answer) out.old) × (out.new ≡ given_into (dtmf_char_numbers answer) out.old) }
 {
-    match answer {
-        DtmfChar::Char(byte) => wire::give_one(byte as u64, out),
-        DtmfChar::Refused(refusal) => Written::Refused(refusal),
-    }
+    let character = answer?;
+    wire::give(&[u64::from(character)], out)
 }
 
 // A component of a segmentation descriptor, in the same way.
-fn segmentation_component(answer: SegmentationComponent, out: &mut [u64]) -> Written
+fn segmentation_component(
+    answer: Result<SegmentationComponent, Refusal>,
+    out: &mut [u64],
+) -> Result<usize, Refusal>
     ensures { (result ≡ given (segmentation_component_numbers answer) out.old) × (out.new ≡ given_into (segmentation_component_numbers answer) out.old) }
 {
-    match answer {
-        SegmentationComponent::Component {
-            component_tag,
-            pts_offset,
-        } => wire::give_two(component_tag as u64, pts_offset.0, out),
-        SegmentationComponent::Refused(refusal) => Written::Refused(refusal),
-    }
+    let component = answer?;
+    let tag = u64::from(component.component_tag);
+    wire::give(&[tag, component.pts_offset.0], out)
 }
 
 // A component of an audio descriptor, in the same way.
-fn audio_component(answer: AudioComponent, out: &mut [u64]) -> Written
+fn audio_component(
+    answer: Result<AudioComponent, Refusal>,
+    out: &mut [u64],
+) -> Result<usize, Refusal>
     ensures { (result ≡ given (audio_component_numbers answer) out.old) × (out.new ≡ given_into (audio_component_numbers answer) out.old) }
 {
-    match answer {
-        AudioComponent::Component {
-            component_tag,
-            iso_code,
-            bit_stream_mode,
-            num_channels,
-            full_srvc_audio,
-        } => wire::give(
-            &[
-                component_tag as u64,
-                iso_code as u64,
-                bit_stream_mode as u64,
-                num_channels as u64,
-                wire::flag(full_srvc_audio),
-            ],
-            out,
-        ),
-        AudioComponent::Refused(refusal) => Written::Refused(refusal),
-    }
+    let component = answer?;
+    wire::give(
+        &[
+            u64::from(component.component_tag),
+            u64::from(component.iso_code),
+            u64::from(component.bit_stream_mode),
+            u64::from(component.num_channels),
+            wire::flag(component.full_srvc_audio),
+        ],
+        out,
+    )
 }
 
 // Where the UPID bytes of a known descriptor lie, and how many they are, in the same way.
-fn upid(answer: Upid, out: &mut [u64]) -> Written
+fn upid(answer: Result<Part, Refusal>, out: &mut [u64]) -> Result<usize, Refusal>
     ensures { (result ≡ given (upid_numbers answer) out.old) × (out.new ≡ given_into (upid_numbers answer) out.old) }
 {
-    match answer {
-        Upid::Part(at, length) => wire::give_two(at as u64, length as u64, out),
-        Upid::Refused(refusal) => Written::Refused(refusal),
-    }
+    let part = answer?;
+    wire::give(&[part.at as u64, part.length as u64], out)
 }
