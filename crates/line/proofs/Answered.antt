@@ -11,7 +11,7 @@ use borrow.Author.Tests.{le-ltb}
 use Rattle.bits.proofs.Cases.{le_or_lt}
 use Rattle.units.specs.declared.refusals.Refusal.{Refusal}
 use Rattle.units.specs.declared.refusals.Refusal.TheVariants.{TextLen}
-use Rattle.units.specs.declared.refusals.Written.{Written}
+use Rattle.std.specs.Prelude.{Ok, Err}
 use Rattle.units.specs.Answers.{answer, memory}
 use Rattle.breaks.specs.Breaks.{break_answer}
 use Rattle.text.specs.Text.{read_row, read, read_into, count, decoded}
@@ -23,38 +23,38 @@ use Rattle.line.specs.Line.{in_millis, answer_by, answer_in, line_answer}
 
 module _ (t out : List ℕ) where
   -- a refusal of the text is the answer
-  by_row : (row : ℕ) (r : Refusal) → answer row (count t) ≡ Written.Refused r → Line.Refused r ≡ answer_by row (decoded t)
+  by_row : (row : ℕ) (r : Refusal) → answer row (count t) ≡ Err r → Line.Refused r ≡ answer_by row (decoded t)
   by_row zero r e = absurd (let z : ◌≡◌ {A = ℕ} 0 1 = cc in omega arith)
   by_row (suc row) r e = cc
 
-  pub refused : (r : Refusal) → read t out ≡ Written.Refused r → Line.Refused r ≡ answer_in t (length out)
+  pub refused : (r : Refusal) → read t out ≡ Err r → Line.Refused r ≡ answer_in t (length out)
   unfolding read answer_in
   refused r e = by_row (read_row t (length out)) r e
 
   -- where so many bytes were read, no row refuses the text, and they are its bytes
-  none : (row n : ℕ) → answer row (count t) ≡ Written.Count n → (row ≡ 0) × (n ≡ count t)
+  none : (row n : ℕ) → answer row (count t) ≡ Ok n → (row ≡ 0) × (n ≡ count t)
   none zero n e = (refl, cc)
   none (suc row) n e = absurd (let z : ◌≡◌ {A = ℕ} 0 1 = cc in omega arith)
 
-  pub passes : (n : ℕ) → read t out ≡ Written.Count n → (read_row t (length out) ≡ 0) × (n ≡ count t)
+  pub passes : (n : ℕ) → read t out ≡ Ok n → (read_row t (length out) ≡ 0) × (n ≡ count t)
   unfolding read
   passes n e = none (read_row t (length out)) n e
 
   -- there was room for them
-  pub inside : (n : ℕ) → read t out ≡ Written.Count n → n ≤ length out
+  pub inside : (n : ℕ) → read t out ≡ Ok n → n ≤ length out
   inside n e =
       let row = passes n e in
       ⊎_elim (λ h. omega (arith, row.1)) (λ h. absurd (omega (arith, sym row.0 ∙ row_room t (length out) (accepted t (length out) row.0) h)))
       (le_or_lt (count t) (length out))
 
-  pub front : (n : ℕ) → read t out ≡ Written.Count n → take n (read_into t out) ≡ decoded t
+  pub front : (n : ℕ) → read t out ≡ Ok n → take n (read_into t out) ≡ decoded t
   unfolding read_into
   front n e =
       let row = passes n e in
       ap₂ (λ (k r : ℕ). take k (memory r (decoded t) out)) row.1 row.0
       ∙ take_at (decoded t) (drop (length (decoded t)) out) (count t) (length_decoded t)
 
-  pub answered : (n : ℕ) → read t out ≡ Written.Count n → in_millis (break_answer (take n (read_into t out))) ≡ answer_in t (length out)
+  pub answered : (n : ℕ) → read t out ≡ Ok n → in_millis (break_answer (take n (read_into t out))) ≡ answer_in t (length out)
   unfolding answer_in
   answered n e = ap (λ (s : List ℕ). in_millis (break_answer s)) (front n e) ∙ ap (λ (r : ℕ). answer_by r (decoded t)) (sym (passes n e).0)
 

@@ -3,12 +3,12 @@
 
 ghost use Rattle.std.specs.Prelude.{◌≡◌, length};
 ghost use Rattle.text.specs.Text.{read_into};
-ghost use Rattle.line.specs.Line.{answer_in, in_millis, refused_text};
+ghost use Rattle.line.specs.Line.{answer_in, in_millis};
 ghost use Rattle.line.specs.Line as says;
 
 use house::Break;
 pub use spelling::{Line, spell};
-use units::{MOST_TEXT_BYTES, Written};
+use units::{MOST_TEXT_BYTES, Refusal};
 
 // The answer to a text.
 pub fn answer(text: &[u8]) -> Line
@@ -32,30 +32,22 @@ pub fn answer_in(text: &[u8], section: &mut [u8]) -> Line
     ensures { (result ≡ answer_in text.now (length section.old)) × (section.new ≡ read_into text.now section.old) }
 {
     let read = text::to_section(text, section);
-    let Written::Count(count) = read else {
-        return refused_text(read);
+    let Ok(count) = read else {
+        // a refusal of the text goes out under its own number
+        return Line::Refused(read.unwrap_err());
     };
     in_millis(house::break_answer(&section[..count]))
 }
 
-// A refusal of the text goes out under its own number.
-fn refused_text(read: Written) -> Line
-    ensures { result ≡ refused_text read }
-{
-    match read {
-        Written::Refused(refusal) => Line::Refused(refusal),
-        Written::Count(_) => Line::None,
-    }
-}
-
-fn in_millis(answer: Break) -> Line
+// A break in milliseconds, or the refusal.
+fn in_millis(answer: Result<Break, Refusal>) -> Line
     ensures { result ≡ in_millis answer }
 {
     match answer {
-        Break::None => Line::None,
-        Break::Measured(ticks) => Line::Measured(ticks.to_millis()),
-        Break::Unmeasured => Line::Unmeasured,
-        Break::Unread => Line::Unread,
-        Break::Refused(refusal) => Line::Refused(refusal),
+        Ok(Break::None) => Line::None,
+        Ok(Break::Measured(ticks)) => Line::Measured(ticks.to_millis()),
+        Ok(Break::Unmeasured) => Line::Unmeasured,
+        Ok(Break::Unread) => Line::Unread,
+        Err(refusal) => Line::Refused(refusal),
     }
 }
