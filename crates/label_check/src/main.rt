@@ -2,7 +2,6 @@
 // house's names are the letters A to E, 41 to 45.
 #![tactic(auto)]
 
-use descriptor_reading::Upid;
 use std::io;
 
 fn main(rt: HostRuntime) -> io::Result<()> {
@@ -50,7 +49,7 @@ fn show<'a>(rt: &impl Print, section: &'a [u8], house: &'a [u8]) -> io::Result<(
 // The UPID bytes of known descriptor n, and the refusal that the companion question gives where there are none.
 fn upid(rt: &impl Print, section: &[u8], n: usize) -> io::Result<()> {
     write(rt, b"upid", reading::upid_bytes(section, n))?;
-    if let Upid::Refused(refusal) = reading::upid(section, n) {
+    if let Err(refusal) = reading::upid(section, n) {
         let number = refusal.number();
         print!(rt; " refused {number}")?;
     }
@@ -59,12 +58,8 @@ fn upid(rt: &impl Print, section: &[u8], n: usize) -> io::Result<()> {
 
 fn write(rt: &impl Print, word: &[u8], bytes: &[u8]) -> io::Result<()> {
     rt.write_all(word)?;
-    for i in 0..bytes.len() {
-        write_byte(rt, bytes[i])?;
+    for byte in bytes {
+        print!(rt; " {byte:02x}")?;
     }
     Ok(())
-}
-
-fn write_byte(rt: &impl Print, byte: u8) -> io::Result<()> {
-    print!(rt; " {byte:02x}")
 }
