@@ -12,7 +12,7 @@ use Rattle.command_reading.specs.Command.{command_trace, is_type}
 use Rattle.command_reading.specs.Places.{avails_at}
 use Rattle.command_events.specs.Events.{event_rows, scheduled_of, event_component_in}
 
--- the same from byte `at` on
+-- when the event from byte `at` on takes place
 abbrev pub event_time_at : List ℕ → ℕ → EventTime
 event_time_at s at =
     cond (flag_of s (8 * (at + 5) + 1)) (EventTime.Program (field_of s (8 * (at + 6)) 32)) (EventTime.Components (field_of s (8 * (at + 6)) 8))

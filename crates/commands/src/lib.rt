@@ -14,7 +14,7 @@ ghost use Rattle.commands.specs.Command.{command_end, component_place, event_pla
 
 use grammar::Part;
 
-// The byte of the section at which its command ends; Broken where the command breaks its table or its length, or where
+// The byte of the section at which its command ends; None where the command breaks its table or its length, or where
 // the bytes are too few for a section. A length of 0xFFF leaves the end to the table.
 pub fn command_end(s: &[u8]) -> Option<usize>
     ensures { outcome result ≡ command_end s.now }
@@ -43,7 +43,7 @@ pub fn command_end(s: &[u8]) -> Option<usize>
     if next == part { Some(part) } else { None }
 }
 
-// The byte at which component n of an insert starts, whose components stand from `at` up to `end`; Broken where one before
+// The byte at which component n of an insert starts, whose components stand from `at` up to `end`; None where one before
 // it breaks its table, or these bytes are not there.
 pub fn insert_component_at(
     s: &[u8],
