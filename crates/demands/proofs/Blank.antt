@@ -3,6 +3,7 @@
 use mathlib.Core.Path.{◌≡◌, ap, ◌∙◌}
 use mathlib.Core.Bool.{Bool, cond, ◌&&◌}
 use mathlib.Core.List.{[]}
+use Rattle.std.specs.Prelude.{Ok, Err}
 use Prim.Native.Nat.{ℕ}
 use lib.Dec.{ltb, eqb}
 use Rattle.units.specs.declared.refusals.Refusal.{Refusal}
@@ -42,9 +43,9 @@ unfolding event_of
 event_blank t n =
     let there : Bool = eqb (look t "splice_command_type") 0x04 && ltb n (look t "splice_count") in
     (λ i.
-    cond (eqb (look_blank t "splice_command_type" i) 0x04 && ltb n (look_blank t "splice_count" i)) (scheduled_of (event_rows_blank t n i))
-    (Event.Refused Refusal.NotHere))
-    ∙ ap (λ (v : Event). cond there v (Event.Refused Refusal.NotHere)) (scheduled_blank (event_rows t n))
+    cond (eqb (look_blank t "splice_command_type" i) 0x04 && ltb n (look_blank t "splice_count" i)) (Ok (scheduled_of (event_rows_blank t n i)))
+    (Err Refusal.NotHere))
+    ∙ ap (λ (v : Event). cond there (Ok v) (Err Refusal.NotHere)) (scheduled_blank (event_rows t n))
 
 component_in_blank : (t : Trace) (m : ℕ) → event_component_in (blank t) m ≡ event_component_in t m
 unfolding event_component_in

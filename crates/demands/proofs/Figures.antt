@@ -18,7 +18,7 @@ use Rattle.grammar.specs.Tables.{splice_info_section, payload, sized_command, co
 use Rattle.grammar.specs.Traces.{trace_of, numbers}
 use Rattle.grammar.specs.Names.{look}
 use Rattle.commands.specs.Command.{known, command_end}
-use Rattle.section.specs.declared.Verdict.{Verdict}
+use Rattle.std.specs.Prelude.{Err}
 use Rattle.section.specs.Accept.{the, grammar_of, breaks, complete, accept_rows, accept_row, verdict, accept_of}
 use Rattle.section.specs.Judge.{loop_from}
 use Rattle.opening.specs.First.{if_accepted, first_cursor, open_row, opened, open_of, asked}
@@ -29,7 +29,7 @@ use Rattle.times.specs.Times.{effective_time}
 use Rattle.demands.specs.Figures.{text004, wrapping, moving, Starred}
 
 -- any 19 bytes
-short : (s : List ℕ) → length s ≡ 19 → accept_of s ≡ Verdict.Refused Refusal.Short
+short : (s : List ℕ) → length s ≡ 19 → accept_of s ≡ Err Refusal.Short
 unfolding accept_of accept_row verdict
 short s e = ap (λ (b : Bool). verdict (first ((b, 1) ∷ rest (accept_rows s)))) (lt-ltb (length s) 20 (omega arith))
   where

@@ -14,10 +14,9 @@ use Rattle.grammar.specs.Traces.{Trace, size, trace_of, blank}
 use Rattle.grammar.specs.Names.{look, is_set, all_of}
 use Rattle.descriptors.specs.declared.Cursor.{Cursor}
 use Rattle.descriptors.specs.Loop.{trace_at}
-use Rattle.opening.specs.declared.Opened.{Opened}
+use Rattle.std.specs.Prelude.{Option, Some, Result, Ok, Err}
 use Rattle.opening.specs.First.{first_cursor, open_of}
-use Rattle.descriptor_reading.specs.declared.answers.Descriptor.{Descriptor}
-use Rattle.descriptor_reading.specs.declared.answers.Upid.{Upid}
+use Rattle.descriptor_reading.specs.declared.answers.Part.{Part}
 use Rattle.known_walk.specs.Known.{known_cursors, numbered, known_trace}
 use Rattle.descriptor_reading.specs.Descriptor.{is_tag, descriptor_of, through, upid_of}
 use Rattle.descriptor_reading.specs.Descriptor as Says
@@ -26,8 +25,7 @@ use Rattle.descriptor_reading.proofs.UpidPart.{standing_part}
 use Rattle.reading.specs.Reading.{upid, part_of, upid_bytes}
 use Rattle.opening.proofs.Asked.{when_open}
 use Rattle.reading.proofs.UpidBytes.{part_values}
-use Rattle.labels.specs.declared.answers.Label.{Label}
-use Rattle.breaks.specs.Signals.{read_at}
+use Rattle.breaks.specs.Signals.{Reading, read_at}
 use Rattle.labels.specs.Labels.{labelled, label_at, label_of}
 use Rattle.demands.specs.OneCue.{unplaced}
 use Rattle.grammar.proofs.Blank.{look_blank, all_blank}
@@ -60,14 +58,14 @@ known_same s s' c c' e n = sym (nth_at s (known_cursors s c) n) ∙ ap (λ (ts :
 -- ---- in order
 
 -- what they say
-unfoldable pub described : List Trace → List Descriptor
+unfoldable pub described : List Trace → List Reading
 described [] = []
 described (t ∷ ts) = descriptor_of t ∷ described ts
 
 pub read_blanks : (s : List ℕ) (cs : List Cursor) → read_at s cs ≡ described (blanks_at s cs)
 unfolding read_at described blanks_at
 read_blanks s [] = refl
-read_blanks s (c ∷ cs) = ap₂ (λ (d : Descriptor) (ds : List Descriptor). d ∷ ds) (sym (descriptor_blank (trace_at s c))) (read_blanks s cs)
+read_blanks s (c ∷ cs) = ap₂ (λ (d : Reading) (ds : List Reading). d ∷ ds) (sym (descriptor_blank (trace_at s c))) (read_blanks s cs)
 
 -- ---- the UPID
 
@@ -75,8 +73,8 @@ read_blanks s (c ∷ cs) = ap₂ (λ (d : Descriptor) (ds : List Descriptor). d 
 abbrev has_upid : Trace → Bool
 has_upid t = is_tag t 2 && not (is_set t "segmentation_event_cancel_indicator")
 
-unfoldable pub upid_said : Trace → Upid
-upid_said t = cond (has_upid t) (Upid.Part 0 (look t "segmentation_upid_length")) (Upid.Refused Refusal.NotHere)
+unfoldable pub upid_said : Trace → Result Part Refusal
+upid_said t = cond (has_upid t) (Ok (record { at = 0; length = look t "segmentation_upid_length" })) (Err Refusal.NotHere)
 
 pub upid_said_blank : (t : Trace) → upid_said (blank t) ≡ upid_said t
 unfolding upid_said
@@ -87,8 +85,8 @@ unfolding upid_of upid_said
 unplaced_said at t = go (has_upid t)
   where
     go : (b : Bool)
-        → unplaced (cond b (Upid.Part (at + size (through "segmentation_upid_length" t) / 8) (look t "segmentation_upid_length")) (Upid.Refused Refusal.NotHere))
-        ≡ cond b (Upid.Part 0 (look t "segmentation_upid_length")) (Upid.Refused Refusal.NotHere)
+        → unplaced (cond b (Ok (record { at = at + size (through "segmentation_upid_length" t) / 8; length = look t "segmentation_upid_length" })) (Err Refusal.NotHere))
+        ≡ cond b (Ok (record { at = 0; length = look t "segmentation_upid_length" })) (Err Refusal.NotHere)
     go true = refl
     go false = refl
 
@@ -100,7 +98,7 @@ pub bytes_said_blank : (t : Trace) → bytes_said (blank t) ≡ bytes_said t
 unfolding bytes_said
 bytes_said_blank t = simp (look_blank, all_blank)
 
-pub bytes_of : (s : List ℕ) (n : ℕ) → AreBytes s → open_of s ≡ Opened.Open (first_cursor s)
+pub bytes_of : (s : List ℕ) (n : ℕ) → AreBytes s → open_of s ≡ Ok (first_cursor s)
     → upid_bytes s n ≡ bytes_said (known_trace s (first_cursor s) n)
 unfolding upid upid_bytes part_of upid_of bytes_said Says.upid
 bytes_of s n hs o = go (has_upid t) refl
@@ -114,10 +112,10 @@ bytes_of s n hs o = go (has_upid t) refl
     place : ℕ
     place = (numbered (known_cursors s c) n).at + size (through "segmentation_upid_length" t) / 8
 
-    is : (b : Bool) → has_upid t ≡ b → upid s n ≡ cond b (Upid.Part place (look t "segmentation_upid_length")) (Upid.Refused Refusal.NotHere)
+    is : (b : Bool) → has_upid t ≡ b → upid s n ≡ cond b (Ok (record { at = place; length = look t "segmentation_upid_length" })) (Err Refusal.NotHere)
     is b e =
-        when_open Upid.Refused (λ d. Says.upid s d n) c o
-        ∙ ap (λ (x : Bool). cond x (Upid.Part place (look t "segmentation_upid_length")) (Upid.Refused Refusal.NotHere)) e
+        when_open Err (λ d. Says.upid s d n) c o
+        ∙ ap (λ (x : Bool). cond x (Ok (record { at = place; length = look t "segmentation_upid_length" })) (Err Refusal.NotHere)) e
 
     go : (b : Bool) → has_upid t ≡ b → upid_bytes s n ≡ cond (has_upid t) (all_of t "segmentation_upid") []
     go true e =
@@ -138,7 +136,7 @@ billed_blank : (t : Trace) (other : List ℕ)
 billed_blank t other = simp (look_blank, all_blank)
 
 -- the label is the bytes of this UPID, where it has some, or else another's
-one_label : (s house : List ℕ) (c : Cursor) (other : Label) → AllStand s (c ∷ []) → AreBytes s
+one_label : (s house : List ℕ) (c : Cursor) (other : Option Part) → AllStand s (c ∷ []) → AreBytes s
     → label_of s house (labelled (upid_of c.at (trace_at s c)) other)
     ≡ cond (has_upid (trace_at s c) && ltb 0 (look (trace_at s c) "segmentation_upid_length")) (all_of (trace_at s c) "segmentation_upid") (label_of s house other)
 unfolding upid_of
@@ -153,11 +151,11 @@ one_label s house c other h hs = go (has_upid t) refl
     place : ℕ
     place = c.at + size (through "segmentation_upid_length" t) / 8
 
-    part : Bool → Upid
-    part b = cond b (Upid.Part place long) (Upid.Refused Refusal.NotHere)
+    part : Bool → Result Part Refusal
+    part b = cond b (Ok (record { at = place; length = long })) (Err Refusal.NotHere)
 
     taken : has_upid t ≡ true → (b : Bool)
-        → label_of s house (cond b (Label.Upid place long) other) ≡ cond b (all_of t "segmentation_upid") (label_of s house other)
+        → label_of s house (cond b (Some (record { at = place; length = long })) other) ≡ cond b (all_of t "segmentation_upid") (label_of s house other)
     taken e true = standing_part s c.at t place long h.0 (ap part e) hs
     taken e false = refl
 

@@ -24,7 +24,7 @@ use Rattle.grammar.proofs.Scope.{scoped, Agree, same_read}
 use Rattle.grammar.proofs.Readings.{Reads}
 use Rattle.grammar.proofs.Determined.{determined, descriptors_determined}
 use Rattle.commands.specs.Command.{known}
-use Rattle.section.specs.declared.Verdict.TheVariants.{Accepted}
+use Rattle.std.specs.Prelude.{Ok}
 use Rattle.section.specs.Accept.{the, accept_of}
 use Rattle.section.proofs.Accepted.{accepted}
 use Rattle.sheet.specs.Sheet.{section_trace}
@@ -95,13 +95,13 @@ module _ (s : List ℕ) where
 
   -- ---- the command's rows
 
-  pub command_read : accept_of s ≡ Accepted → (l : Left s) → command_reading s ≡ reached (8 * l.stop) l.rows
+  pub command_read : accept_of s ≡ Ok tt → (l : Left s) → command_reading s ≡ reached (8 * l.stop) l.rows
   unfolding command_reading
   command_read e l =
       let all = accepted s e in
       λ i. cond (le-leb 20 (length s) all.long i && le-leb (length s) 4096 all.fits i) (l.commanded i) (broken 0)
 
-  command_trace_lem : accept_of s ≡ Accepted → (l : Left s) → command_trace s ≡ typed_rows s l.rows
+  command_trace_lem : accept_of s ≡ Ok tt → (l : Left s) → command_trace s ≡ typed_rows s l.rows
   unfolding command_trace typed trace_of
   command_trace_lem e l = ap (λ (r : Reading). typed s (trace_of r)) (command_read e l)
 
@@ -112,7 +112,7 @@ pub record Alike (s s' : List ℕ) : Type 0 where
   pub adjustments : the s "pts_adjustment" ≡ the s' "pts_adjustment"
   pub lists : blanks_at s (cursors s) ≡ blanks_at s' (cursors s')
 
-module _ (s s' : List ℕ) (e : accept_of s ≡ Accepted) (e' : accept_of s' ≡ Accepted) (l : Left s) (l' : Left s')
+module _ (s s' : List ℕ) (e : accept_of s ≡ Ok tt) (e' : accept_of s' ≡ Ok tt) (l : Left s) (l' : Left s')
     (same : left (section_trace s) ≡ left (section_trace s')) where
   parts_same : (blank (last s (typed_rows s l.rows)) ≡ blank (last s' (typed_rows s' l'.rows)))
       × (numbers (joined (blanks_at s (cursors s))) ≡ numbers (joined (blanks_at s' (cursors s'))))

@@ -18,7 +18,7 @@ use Rattle.grammar.specs.Meaning.{values, after, then, again, sweep, exactly, nu
 use Rattle.grammar.specs.Tables.{splice_time, break_duration, avail_numbers, avails, schedule_times, schedule_event, splice_schedule, insert_component, insert_times, splice_insert, command, sized_command, dtmf_descriptor, delivery, segmentation_components, segmentation_end, segmentation_descriptor, audio_descriptor, known_descriptor, splice_descriptor, descriptor_loop, payload, splice_info_section}
 use Rattle.grammar.specs.Left.{left}
 use Rattle.grammar.proofs.Cues.{LeftOf, signal_numbers, cue_numbers, cue, cleared, stuffed, foreign, reserved_tag, trailed, cue_left, insert_set, insert_clear, insert_left, schedule_set, schedule_clear, schedule_left, dtmf_set, dtmf_clear, dtmf_left, audio_set, audio_clear, audio_left, component_set, component_clear, component_left, algorithm_2, cw_5, tier_4094, later, ended, bare, bare_numbers, others_left}
-use Rattle.section.specs.declared.Verdict.TheVariants.{Accepted}
+use Rattle.std.specs.Prelude.{Ok}
 use Rattle.section.specs.Accept.{the, grammar_of, breaks, complete, accept_row, verdict, accept_of}
 use Rattle.sheet.specs.Sheet.{section_trace, sheet_of}
 use Rattle.demands.specs.Same.{Same}
@@ -39,11 +39,11 @@ are_bytes (x ∷ s) e (suc i) = are_bytes s (and_right (ltb x 256) (all_bytes s)
 -- the bytes s are an accepted section in the clear, and the numbers xs are left of its sheet
 pub record Leaves (s xs : List ℕ) : Type 0 where
   pub bytes : AreBytes s
-  pub accepted : accept_of s ≡ Accepted
+  pub accepted : accept_of s ≡ Ok tt
   pub clear : eqb (the s "encrypted_packet") 1 ≡ false
   pub numbered : left (section_trace s) ≡ xs
 
-leaves : {s xs : List ℕ} → LeftOf s xs → all_bytes s ≡ true → accept_of s ≡ Accepted → eqb (the s "encrypted_packet") 1 ≡ false → Leaves s xs
+leaves : {s xs : List ℕ} → LeftOf s xs → all_bytes s ≡ true → accept_of s ≡ Ok tt → eqb (the s "encrypted_packet") 1 ≡ false → Leaves s xs
 unfolding section_trace
 leaves {s} q b e h = record { bytes = are_bytes s b; accepted = e; clear = h; numbered = q }
 

@@ -21,7 +21,7 @@ use Rattle.grammar.proofs.Determined.{AllBlanked}
 use Rattle.commands.specs.Command.{known}
 use Rattle.descriptors.specs.declared.Cursor.{Cursor}
 use Rattle.descriptors.specs.Loop.{walked, traces_at}
-use Rattle.section.specs.declared.Verdict.TheVariants.{Accepted}
+use Rattle.std.specs.Prelude.{Ok}
 use Rattle.section.specs.Accept.{the, accept_of}
 use Rattle.section.proofs.Accepted.{accepted, has_trace}
 use Rattle.opening.specs.First.{first_cursor}
@@ -140,7 +140,7 @@ pub record Left (s : List ℕ) : Type 0 where
   pub lists : descriptors (section_trace s) ≡ blanks_at s (cursors s)
   pub blanked : AllBlanked splice_descriptor [] (blanks_at s (cursors s))
 
-pub is_left : (s : List ℕ) → accept_of s ≡ Accepted → eqb (the s "encrypted_packet") 1 ≡ false → Left s
+pub is_left : (s : List ℕ) → accept_of s ≡ Ok tt → eqb (the s "encrypted_packet") 1 ≡ false → Left s
 unfolding section_trace trace_of
 is_left s e h =
     let c : Cursor = first_cursor s in

@@ -16,7 +16,7 @@ use Rattle.grammar.specs.Tables.{command_types}
 use Rattle.grammar.specs.Traces.{Trace}
 use Rattle.grammar.specs.Names.{look, is_set, all_of}
 use Rattle.grammar.proofs.Keys.{not_among}
-use Rattle.section.specs.declared.Verdict.TheVariants.{Accepted}
+use Rattle.std.specs.Prelude.{Option, Some, None, Result, Ok, Err}
 use Rattle.section.specs.Accept.{the, accept_of}
 use Rattle.opening.specs.First.{first_cursor}
 use Rattle.opening.proofs.Asked.{sealed_open, open_first, when_open, when_refused}
@@ -25,10 +25,9 @@ use Rattle.command_reading.specs.declared.answers.Insert.{Insert}
 use Rattle.command_reading.specs.declared.answers.Command.{Command}
 use Rattle.command_reading.specs.Command.{is_type, time_of, insert_of, command_trace, command_of}
 use Rattle.command_reading.specs.Command as Commands
-use Rattle.descriptor_reading.specs.declared.answers.Descriptor.{Descriptor}
 use Rattle.breaks.specs.declared.Break.{Break}
 use Rattle.breaks.specs.declared.signal.Measure.{Measure}
-use Rattle.breaks.specs.Signals.{known_readings, lasting, signal_of, signal_break}
+use Rattle.breaks.specs.Signals.{Reading, known_readings, lasting, signal_of, signal_break}
 use Rattle.breaks.specs.Breaks.{lasting_break, insert_break, break_by, refused_break}
 use Rattle.breaks.specs.Breaks as Breaks
 use Rattle.demands.proofs.Demand3.{command_is}
@@ -41,49 +40,50 @@ unread_type t h =
     let n = not_among (look t "splice_command_type") command_types h in
     rw (n.0, n.1.0, n.1.1.0, n.1.1.1.0, n.1.1.1.1.0, n.1.1.1.1.1.0)
 
-abbrev is_unread : Break → Bool
-is_unread Break.None = false
-is_unread (Break.Measured t) = false
-is_unread Break.Unmeasured = false
-is_unread Break.Unread = true
-is_unread (Break.Refused r) = false
+abbrev is_unread : Result Break Refusal → Bool
+is_unread (Ok Break.None) = false
+is_unread (Ok (Break.Measured t)) = false
+is_unread (Ok Break.Unmeasured) = false
+is_unread (Ok Break.Unread) = true
+is_unread (Err r) = false
 
-insert_read : (i : Insert) → is_unread (insert_break i) ≡ false
+insert_read : (i : Insert) → is_unread (Ok (insert_break i)) ≡ false
 insert_read i = go i.out_of_network_indicator i.avails.break_duration
   where
-    go : (b : Bool) (d : BreakDuration) → is_unread (cond b (lasting_break d) Break.None) ≡ false
-    go true BreakDuration.Absent = refl
-    go true (BreakDuration.Present auto t) = refl
+    go : (b : Bool) (d : Option BreakDuration) → is_unread (Ok (cond b (lasting_break d) Break.None)) ≡ false
+    go true None = refl
+    go true (Some d) = refl
     go false d = refl
 
-signal_read : (ds : List Descriptor) → is_unread (signal_break ds) ≡ false
+signal_read : (ds : List Reading) → is_unread (Ok (signal_break ds)) ≡ false
 unfolding signal_break
 signal_read ds = go (signal_of ds).opened (signal_of ds).billed
   where
-    go : (b : Bool) (m : Measure) → is_unread (cond b (lasting m) Break.None) ≡ false
-    go true Measure.Absent = refl
-    go true (Measure.Present id t) = refl
+    go : (b : Bool) (m : Option Measure) → is_unread (Ok (cond b (lasting m) Break.None)) ≡ false
+    go true None = refl
+    go true (Some m) = refl
     go false m = refl
 
-read_type : (t : Trace) (ds : List Descriptor) → is_among (look t "splice_command_type") command_types ≡ true
-    → is_unread (break_by (command_of t) ds) ≡ false
+read_type : (t : Trace) (ds : List Reading) → is_among (look t "splice_command_type") command_types ≡ true
+    → is_unread (break_by (Ok (command_of t)) ds) ≡ false
 unfolding command_of
 read_type t ds = go (is_type t 0x00) (is_type t 0x04) (is_type t 0x05) (is_type t 0x06) (is_type t 0x07) (is_type t 0xFF)
   where
-    inserted : (b : Bool) (id : EventId) (i : Insert) → is_unread (break_by (cond b (Command.CancelledInsert id) (Command.Insert i)) ds) ≡ false
+    inserted : (b : Bool) (id : EventId) (i : Insert) → is_unread (break_by (Ok (cond b (Command.CancelledInsert id) (Command.Insert i))) ds) ≡ false
     inserted true id i = refl
     inserted false id i = insert_read i
 
     go : (a b c d e f : Bool) → (a || (b || (c || (d || (e || (f || false)))))) ≡ true
         → is_unread
         (break_by
+        (Ok
         (cond a Command.Null
         (cond b (Command.Schedule (look t "splice_count"))
         (cond c (insert_of t)
         (cond d (Command.TimeSignal (time_of t))
         (cond e Command.BandwidthReservation
         (cond f (Command.Private (look t "identifier") (length (all_of t "private_byte")))
-        Command.Unread))))))
+        Command.Unread)))))))
         ds)
         ≡ false
     go true b c d e f h = refl
@@ -96,28 +96,28 @@ read_type t ds = go (is_type t 0x00) (is_type t 0x04) (is_type t 0x05) (is_type 
 
 -- ---- by the section
 
-pub sealed_unread : (s : List ℕ) → accept_of s ≡ Accepted → eqb (the s "encrypted_packet") 1 ≡ true → Breaks.break_answer s ≡ Break.Unread
+pub sealed_unread : (s : List ℕ) → accept_of s ≡ Ok tt → eqb (the s "encrypted_packet") 1 ≡ true → Breaks.break_answer s ≡ Ok Break.Unread
 unfolding Breaks.break_answer
 sealed_unread s e h = when_refused refused_break (λ c. break_by (Commands.command s) (known_readings s c)) Refusal.Sealed (sealed_open s e h)
 
 -- of a section that is not sealed the break is that of its command's rows
-by_rows : (s : List ℕ) → accept_of s ≡ Accepted → eqb (the s "encrypted_packet") 1 ≡ false
-    → Breaks.break_answer s ≡ break_by (command_of (command_trace s)) (known_readings s (first_cursor s))
+by_rows : (s : List ℕ) → accept_of s ≡ Ok tt → eqb (the s "encrypted_packet") 1 ≡ false
+    → Breaks.break_answer s ≡ break_by (Ok (command_of (command_trace s))) (known_readings s (first_cursor s))
 unfolding Breaks.break_answer
 by_rows s e h =
     when_open refused_break (λ c. break_by (Commands.command s) (known_readings s c)) (first_cursor s) (open_first s e h)
-    ∙ ap (λ (c : Command). break_by c (known_readings s (first_cursor s))) (command_is s e h)
+    ∙ ap (λ (c : Result Command Refusal). break_by c (known_readings s (first_cursor s))) (command_is s e h)
 
-pub unknown_unread : (s : List ℕ) → accept_of s ≡ Accepted → is_among (look (command_trace s) "splice_command_type") command_types ≡ false
-    → Breaks.break_answer s ≡ Break.Unread
+pub unknown_unread : (s : List ℕ) → accept_of s ≡ Ok tt → is_among (look (command_trace s) "splice_command_type") command_types ≡ false
+    → Breaks.break_answer s ≡ Ok Break.Unread
 unknown_unread s e q =
     ⊎_elim (sealed_unread s e)
-    (λ h. by_rows s e h ∙ ap (λ (c : Command). break_by c (known_readings s (first_cursor s))) (unread_type (command_trace s) q))
+    (λ h. by_rows s e h ∙ ap (λ (c : Command). break_by (Ok c) (known_readings s (first_cursor s))) (unread_type (command_trace s) q))
     (by_cases (eqb (the s "encrypted_packet") 1))
 
 -- and no other
-pub known_read : (s : List ℕ) → accept_of s ≡ Accepted → eqb (the s "encrypted_packet") 1 ≡ false
-    → is_among (look (command_trace s) "splice_command_type") command_types ≡ true → Breaks.break_answer s ≡ Break.Unread → ⊥
+pub known_read : (s : List ℕ) → accept_of s ≡ Ok tt → eqb (the s "encrypted_packet") 1 ≡ false
+    → is_among (look (command_trace s) "splice_command_type") command_types ≡ true → Breaks.break_answer s ≡ Ok Break.Unread → ⊥
 known_read s e h q u =
     false≢true
     (sym (read_type (command_trace s) (known_readings s (first_cursor s)) q) ∙ ap is_unread (sym (by_rows s e h) ∙ u))

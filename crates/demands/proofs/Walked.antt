@@ -22,8 +22,8 @@ use Rattle.grammar.proofs.Readings.{Reads, rows_parts, frame_parts, reached_at}
 use Rattle.grammar.proofs.Determined.{AllBlanked}
 use Rattle.descriptors.specs.declared.Cursor.{Cursor}
 use Rattle.descriptors.specs.declared.Kind.{Kind}
-use Rattle.descriptors.specs.declared.Step.{Step}
-use Rattle.descriptors.specs.Walk.{by_tag, kind_of, step_of}
+use Rattle.std.specs.Prelude.{Some, None, Ok, Err}
+use Rattle.descriptors.specs.Walk.{Step, by_tag, kind_of, step_of}
 use Rattle.descriptors.specs.Loop.{on_step, walk, walked, trace_at, traces_at}
 use Rattle.descriptors.proofs.Walk.{stepped}
 use Rattle.known_walk.specs.Known.{is_known, known_among}
@@ -77,7 +77,7 @@ abbrev pub AllRead : List ℕ → List Cursor → Type 0
 AllRead s [] = Unit {0}
 AllRead s (c ∷ cs) = IsRead s c × AllRead s cs
 
-stepped_read : (s : List ℕ) (c : Cursor) (kind : Kind) (next : Cursor) → step_of s c ≡ Step.Descriptor kind next → IsRead s c
+stepped_read : (s : List ℕ) (c : Cursor) (kind : Kind) (next : Cursor) → step_of s c ≡ Ok (Some (kind, next)) → IsRead s c
 unfolding trace_at run
 stepped_read s c kind next e =
     record {
@@ -94,9 +94,9 @@ all_read zero s c = tt
 all_read (suc n) s c = go (all_read n s) (step_of s c) refl
   where
     go : ((d : Cursor) → AllRead s (walk n s d)) → (σ : Step) → step_of s c ≡ σ → AllRead s (on_step σ c (walk n s))
-    go rest (Step.Descriptor kind next) e = (stepped_read s c kind next e, rest next)
-    go rest Step.Done e = tt
-    go rest Step.Broken e = tt
+    go rest (Ok (Some (kind, next))) e = (stepped_read s c kind next e, rest next)
+    go rest (Ok None) e = tt
+    go rest (Err r) e = tt
 
 pub walked_read : (s : List ℕ) (c : Cursor) → AllRead s (walked s c)
 unfolding walked

@@ -1,16 +1,14 @@
 -- The starred figures of paper 01's worked figures, in one table: each row says what a definition gives, and the figure in the paper.
 -- Assumes nothing.
-use Rattle.std.specs.Prelude.{◌≡◌, ℕ, List, [], ◌∷◌, length}
+use Rattle.std.specs.Prelude.{◌≡◌, ℕ, List, [], ◌∷◌, length, Some, Ok, Err}
 use Rattle.units.specs.declared.refusals.Refusal.{Refusal}
 use Rattle.units.specs.Clock.{ticks, millis, millis_of}
 use Rattle.text.specs.Text.{read_row, decoded}
-use Rattle.section.specs.declared.Verdict.{Verdict}
 use Rattle.section.specs.Accept.{the, accept_of}
 use Rattle.sheet.specs.Sheet.{sheet_of}
 use Rattle.command_reading.specs.declared.answers.SpliceTime.{SpliceTime}
 use Rattle.command_reading.specs.declared.answers.Command.{Command}
 use Rattle.command_reading.specs.Command.{command}
-use Rattle.times.specs.declared.answers.EffectiveTime.{EffectiveTime}
 use Rattle.times.specs.Times.{effective_time}
 
 -- the text of 004, its characters by their codes
@@ -33,15 +31,15 @@ moving =
 
 -- the section s is a time signal with that pts_time and that pts_adjustment, and has that effective time
 pub record Effective (s : List ℕ) (time adjustment effective : ℕ) : Type 0 where
-  pub signals : command s ≡ Command.TimeSignal (SpliceTime.Given (ticks time))
+  pub signals : command s ≡ Ok (Command.TimeSignal (SpliceTime.Given (ticks time)))
   pub adjusts : the s "pts_adjustment" ≡ adjustment
-  pub takes_place : effective_time s ≡ EffectiveTime.At (ticks effective)
+  pub takes_place : effective_time s ≡ Ok (Some (ticks effective))
 
 -- the figures
 pub record Starred : Type 0 where
   -- 004: its text is read, its section is accepted, and its sheet
   pub text : read_row text004 55 ≡ 0
-  pub accepted : accept_of (decoded text004) ≡ Verdict.Accepted
+  pub accepted : accept_of (decoded text004) ≡ Ok tt
   pub sheet :
       sheet_of (decoded text004)
       ≡ 252 ∷ 0 ∷ 0 ∷ 3 ∷ 0 ∷ 0 ∷ 0 ∷ 0 ∷ 0 ∷ 0 ∷ 5 ∷ 6 ∷ 1 ∷ 63 ∷ 3150057 ∷ 30 ∷ 2 ∷ 28 ∷ 1129661769 ∷ 1073741883
@@ -59,4 +57,4 @@ pub record Starred : Type 0 where
   pub wraps : Effective wrapping 8589934591 1 0
   pub moves : Effective moving 5672624400 180832 5672805232
   -- any 19 bytes
-  pub short : (s : List ℕ) → length s ≡ 19 → accept_of s ≡ Verdict.Refused Refusal.Short
+  pub short : (s : List ℕ) → length s ≡ 19 → accept_of s ≡ Err Refusal.Short

@@ -1,7 +1,8 @@
 -- What demand 3 promises of two sections whose sheets are the same cue's: each question has the same answer on both.
 -- Assumes nothing.
-use Rattle.std.specs.Prelude.{◌≡◌, List, ℕ}
-use Rattle.descriptor_reading.specs.declared.answers.Upid.{Upid}
+use Rattle.std.specs.Prelude.{◌≡◌, List, ℕ, Result, Ok, Err}
+use Rattle.units.specs.declared.refusals.Refusal.{Refusal}
+use Rattle.descriptor_reading.specs.declared.answers.Part.{Part}
 use Rattle.reading.specs.Reading as Asks
 use Rattle.breaks.specs.Breaks as Breaks
 use Rattle.breaks.specs.Dash as Dash
@@ -9,9 +10,9 @@ use Rattle.times.specs.Times as Times
 use Rattle.labels.specs.Labels as Labels
 
 -- the place of a part is set to 0: its length and a refusal are left
-abbrev pub unplaced : Upid → Upid
-unplaced (Upid.Part at n) = Upid.Part 0 n
-unplaced (Upid.Refused r) = Upid.Refused r
+abbrev pub unplaced : Result Part Refusal → Result Part Refusal
+unplaced (Ok part) = Ok (record { at = 0; length = part.length })
+unplaced (Err r) = Err r
 
 -- two sections of which every question has the same answer
 pub record OneCue (s s' : List ℕ) : Type 0 where
