@@ -14,7 +14,7 @@ pub struct Part<'a> {
     ghost there: { end ≤ length s.now },
 }
 
-impl<'a> Part<'a> {
+impl Part<'_> {
     // The byte after the first n of them, if there are so many.
     pub fn after(self, n: usize) -> Option<usize>
         ensures there { IfSome result (λ place. (place ≡ self.entry.at + n) × (place ≤ self.entry.end)) }

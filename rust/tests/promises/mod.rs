@@ -80,7 +80,8 @@ pub fn functions(name: &str) -> Vec<Function> {
         let mut lines = source.lines();
         while let Some(line) = lines.next() {
             if let Some(rest) = line.strip_prefix("impl ") {
-                owner = format!("{}::", rest.trim_end_matches(" {"));
+                let end = rest.find(['<', ' ']).unwrap_or(rest.len());
+                owner = format!("{}::", &rest[..end]);
             } else if line == "}" {
                 owner.clear();
             } else if let Some((name, is_public)) = begins(line) {
