@@ -13,7 +13,7 @@ use lib.Dec.{leb, ltb}
 use borrow.Author.Tests.{lt-ltb, le-ltb, le-leb, lt-leb, leb-true}
 use Rattle.bits.proofs.Cases.{le_or_lt}
 use Rattle.units.specs.declared.refusals.Refusal.TheVariants.{TextLen, Room}
-use Rattle.units.specs.declared.refusals.Written.TheVariants.{Count, Refused}
+use Rattle.std.specs.Prelude.{Ok, Err}
 use Rattle.units.specs.Answers.{answer, memory}
 use Rattle.spelling.specs.declared.Line.{Line}
 use Rattle.line.specs.Line.{answer_in, line_answer}
@@ -96,7 +96,7 @@ module _ (held : Held) (carry out : List ℕ) where
     ap (λ (t : Bool). memory (cond (t || ltb (length out) (length (last_said held carry))) 11 0) (last_said held carry) out) (sym e),
   )
 
-  pub last_refused : length carry < 5464 → (Refused Room ≡ last_answer held carry out) × (out ≡ last_out held carry out)
+  pub last_refused : length carry < 5464 → (Err Room ≡ last_answer held carry out) × (out ≡ last_out held carry out)
   last_refused h = by_carry true (lt-ltb _ _ h)
 
   -- a line
@@ -110,7 +110,7 @@ module _ (held : Held) (carry out : List ℕ) where
       )
 
   -- nothing
-  pub last_none : 5464 ≤ length carry → held ≡ Held.Characters 0 → (Count 0 ≡ last_answer held carry out) × (out ≡ last_out held carry out)
+  pub last_none : 5464 ≤ length carry → held ≡ Held.Characters 0 → (Ok 0 ≡ last_answer held carry out) × (out ≡ last_out held carry out)
   unfolding last_said
   last_none h e =
       let long = by_carry false (le-ltb _ _ h) in

@@ -1,6 +1,6 @@
 -- A turn stays within its input and its output, and gets on: with room for the longest answer something is taken of any input.
 -- Assumes nothing.
-use mathlib.Core.Path.{◌≡◌, refl}
+use mathlib.Core.Path.{◌≡◌, refl, ap}
 use mathlib.Core.Bool.{Bool, true, false, cond, ◌||◌}
 use mathlib.Core.List.{List, [], ◌∷◌, ◌++◌}
 use Prim.Native.Nat.{ℕ, zero, suc, ◌+◌, ◌-◌, ◌≤◌, ◌<◌}
@@ -8,7 +8,7 @@ use native.Mathlib.Omega.{arith}
 use lib.ListN.{length, length-append}
 use lib.Dec.{eqb, ltb}
 use borrow.Author.Tests.{ltb-true, ltb-false}
-use Rattle.units.specs.declared.refusals.Written.TheVariants.{Count}
+use Rattle.std.specs.Prelude.{Ok}
 use Rattle.units.specs.Answers.{answer}
 use Rattle.spelling.specs.Spelling.{spelled}
 use Rattle.spelling.proofs.Spelled.{short}
@@ -60,25 +60,26 @@ within held carry part room (c ∷ cs) =
         }
 
 -- the same of what a turn answers
-pub moved_within : (held : Held) (input carry out : List ℕ) (next : Held) (taken written : ℕ) → turn_answer held input carry out ≡ Turn.Moved next taken written
-    → (taken ≤ length input) × (written ≤ length out) × (23 ≤ length out → 0 < length input → 0 < taken)
+pub moved_within : (held : Held) (input carry out : List ℕ) (t : Turn) → turn_answer held input carry out ≡ Ok t
+    → (t.taken ≤ length input) × (t.written ≤ length out) × (23 ≤ length out → 0 < length input → 0 < t.taken)
 unfolding turn_answer
-moved_within held input carry out next taken written e = by (turn_row carry) (turned held carry [] (length out) input) e (within held carry [] (length out) input)
+moved_within held input carry out t e = by (turn_row carry) (turned held carry [] (length out) input) e (within held carry [] (length out) input)
   where
-    by : (row : ℕ) (t : Turned) → moved row t ≡ Turn.Moved next taken written → Within (0 + length input) (length out) t
-        → (taken ≤ length input) × (written ≤ length out) × (23 ≤ length out → 0 < length input → 0 < taken)
-    by zero t e w =
-        let same : t.taken ≡ taken = cc in
-        let long : length t.said ≡ written = cc in
+    by : (row : ℕ) (x : Turned) → moved row x ≡ Ok t → Within (0 + length input) (length out) x
+        → (t.taken ≤ length input) × (t.written ≤ length out) × (23 ≤ length out → 0 < length input → 0 < t.taken)
+    by zero x e w =
+        let same : record { held = x.held; taken = x.taken; written = length x.said } ≡ t = cc in
+        let takes : x.taken ≡ t.taken = ap (λ (y : Turn). y.taken) same in
+        let writes : length x.said ≡ t.written = ap (λ (y : Turn). y.written) same in
         (omega (arith, w.taken), omega (arith, w.said), λ r m. omega (arith, w.on r (omega arith)))
-    by (suc row) t e w = absurd (let z : ◌≡◌ {A = ℕ} 0 1 = cc in omega arith)
+    by (suc row) x e w = absurd (let z : ◌≡◌ {A = ℕ} 0 1 = cc in omega arith)
 
 -- and of the last line
-pub last_within : (held : Held) (carry out : List ℕ) (n : ℕ) → last_answer held carry out ≡ Count n → n ≤ length out
+pub last_within : (held : Held) (carry out : List ℕ) (n : ℕ) → last_answer held carry out ≡ Ok n → n ≤ length out
 unfolding last_answer last_row
 last_within held carry out n e = by (ltb (length carry) 5464) (ltb (length out) (length (last_said held carry))) refl e
   where
-    by : (a b : Bool) → ltb (length out) (length (last_said held carry)) ≡ b → answer (cond (a || b) 11 0) (length (last_said held carry)) ≡ Count n → n ≤ length out
+    by : (a b : Bool) → ltb (length out) (length (last_said held carry)) ≡ b → answer (cond (a || b) 11 0) (length (last_said held carry)) ≡ Ok n → n ≤ length out
     by true b q e = absurd (let z : ◌≡◌ {A = ℕ} 0 1 = cc in omega arith)
     by false true q e = absurd (let z : ◌≡◌ {A = ℕ} 0 1 = cc in omega arith)
     by false false q e =

@@ -16,8 +16,9 @@ use Rattle.spelling.specs.declared.Line.{Line}
 use Rattle.line.specs.Line.{line_answer}
 use Rattle.spelling.specs.Spelling.{spelled}
 use Rattle.spelling.proofs.Spelled.{short}
+use Rattle.std.specs.Prelude.{Result, Ok}
+use Rattle.units.specs.declared.refusals.Refusal.{Refusal}
 use Rattle.units.specs.declared.refusals.Refusal.TheVariants.{TextLen}
-use Rattle.units.specs.declared.refusals.Written.TheVariants.{Count}
 use Rattle.units.specs.Answers.{answer, memory}
 use Rattle.line.proofs.Answered.{too_long}
 use Rattle.lines.specs.declared.answers.Held.{Held}
@@ -286,14 +287,15 @@ along_as {h} {h'} {c} {c'} {s} {s'} {a} {a'} p q r w x =
 along : {held : Held} {carry stream answers : List ℕ} → Handed held carry stream answers → Along held carry stream answers
 unfolding done rest said
 along (stream.start carry h) = record { room = h; words = refl; holds = (omega arith, refl) }
-along (stream.turn {held} {next} {carry} {stream} {answers} {taken} {written} before input out e) =
+along (stream.turn {held} {carry} {stream} {answers} {t = next} before input out e) =
     let so = along before in
     let t : Turned = turned held carry [] (length out) input in
     let is = turn_is held input carry out so.room t refl in
-    let moved : Turn.Moved t.held t.taken (length t.said) ≡ Turn.Moved next taken written = is.0 ∙ e in
-    let holds : t.held ≡ next = cc in
-    let takes : t.taken ≡ taken = cc in
-    let writes : length t.said ≡ written = cc in
+    let moved : ◌≡◌ {A = Result Turn Refusal} (Ok (record { held = t.held; taken = t.taken; written = length t.said })) (Ok next) = is.0 ∙ e in
+    let same : record { held = t.held; taken = t.taken; written = length t.said } ≡ next = cc in
+    let holds : t.held ≡ next.held = ap (λ (x : Turn). x.held) same in
+    let takes : t.taken ≡ next.taken = ap (λ (x : Turn). x.taken) same in
+    let writes : length t.said ≡ next.written = ap (λ (x : Turn). x.written) same in
     along_as holds is.1 (ap (λ (k : ℕ). stream ++ take k input) takes)
     (ap (λ (x : List ℕ). answers ++ x)
     (sym (take-append_seam t.said (drop (length t.said) out)) ∙ ap₂ (λ (k : ℕ) (x : List ℕ). take k x) writes is.2))
@@ -314,11 +316,11 @@ last_is Held.TooLong carry line h s =
     ∙ ap (λ (b : Bool). said (cond b [] (line ∷ []))) (sym (ne_eqb (length line) 0 (λ z. omega (arith, s, z))))
 
 -- where the last line answers a count, it stands at the front of the output
-last_front : (held : Held) (carry out : List ℕ) (n : ℕ) → last_answer held carry out ≡ Count n → take n (last_out held carry out) ≡ last_said held carry
+last_front : (held : Held) (carry out : List ℕ) (n : ℕ) → last_answer held carry out ≡ Ok n → take n (last_out held carry out) ≡ last_said held carry
 unfolding last_answer last_out
 last_front held carry out n e = by (last_row held carry out) e
   where
-    by : (row : ℕ) → answer row (length (last_said held carry)) ≡ Count n → take n (memory row (last_said held carry) out) ≡ last_said held carry
+    by : (row : ℕ) → answer row (length (last_said held carry)) ≡ Ok n → take n (memory row (last_said held carry) out) ≡ last_said held carry
     by zero q =
         let same : length (last_said held carry) ≡ n = cc in
         ap (λ (k : ℕ). take k (last_said held carry ++ drop (length (last_said held carry)) out)) (sym same)
@@ -327,7 +329,7 @@ last_front held carry out n e = by (last_row held carry out) e
 
 -- however it was cut: the answers of the turns and then of the last line are the tally's
 pub however_cut : {held : Held} {carry stream answers : List ℕ} {n : ℕ} → Handed held carry stream answers → (out : List ℕ)
-    → last_answer held carry out ≡ Count n → answers ++ take n (last_out held carry out) ≡ tally stream
+    → last_answer held carry out ≡ Ok n → answers ++ take n (last_out held carry out) ≡ tally stream
 unfolding tally
 however_cut {held} {carry} {stream} {answers} {n} handed out e =
     let so = along handed in
@@ -340,10 +342,10 @@ however_cut {held} {carry} {stream} {answers} {n} handed out e =
 
 -- a turn never is, over any input and any output
 pub turns_on : {held : Held} {carry stream answers : List ℕ} → Handed held carry stream answers → (input out : List ℕ)
-    → (next : Held) × (taken : ℕ) × (written : ℕ) × (turn_answer held input carry out ≡ Turn.Moved next taken written)
+    → (next : Turn) × (turn_answer held input carry out ≡ Ok next)
 turns_on {held} {carry} handed input out =
     let t : Turned = turned held carry [] (length out) input in
-    (t.held, t.taken, length t.said, sym (turn_is held input carry out (along handed).room t refl).0)
+    (record { held = t.held; taken = t.taken; written = length t.said }, sym (turn_is held input carry out (along handed).room t refl).0)
 
 -- nor the last line, with room for the longest answer
 last_short : (held : Held) (carry : List ℕ) → length (last_said held carry) ≤ 23
@@ -353,7 +355,7 @@ last_short (Held.Characters (suc n)) carry = short (ended (Held.Characters (suc 
 last_short Held.TooLong carry = short (Line.Refused TextLen)
 
 pub last_counts : {held : Held} {carry stream answers : List ℕ} → Handed held carry stream answers → (out : List ℕ) → 23 ≤ length out
-    → (n : ℕ) × (last_answer held carry out ≡ Count n)
+    → (n : ℕ) × (last_answer held carry out ≡ Ok n)
 unfolding last_answer last_row
 last_counts {held} {carry} handed out h = (
   length (last_said held carry),

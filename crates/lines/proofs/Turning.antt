@@ -1,25 +1,37 @@
 -- A turn followed line by line: where its next line ends, what it then says, and what is left of it.
 -- Assumes nothing.
 use mathlib.Core.Path.{◌≡◌, refl, sym, ap, ap₂, ◌∙◌, subst}
-use mathlib.Core.Bool.{Bool, true, false, cond}
+use mathlib.Core.Bool.{Bool, true, false, not, cond, ◌||◌}
 use mathlib.Core.Logic.{⊎_elim}
 use mathlib.Core.List.{List, [], ◌∷◌, ◌++◌, append_assoc, append-nil}
-use Prim.Native.Nat.{ℕ, zero, suc, ◌+◌, ◌-◌, ◌≤◌, ◌<◌}
+use Prim.Native.Nat.{ℕ, zero, suc, ◌+◌, ◌-◌, ◌*◌, ◌/◌, ◌≤◌, ◌<◌}
 use native.Mathlib.Nat.{zero-add, add-zero, add_assoc, sub-zero}
 use native.Mathlib.Omega.{arith}
 use lib.ListN.{length, get_or, take, drop, length-append, length-drop, take-append-drop}
 use lib.Seq.{length-take-le, take_all, drop-cons, drop-length, drop-drop, take_at, drop_at}
 use lib.Dec.{eqb, ltb}
-use borrow.Author.Tests.{lt-ltb, le-ltb, eq-eqb, ne_eqb}
+use borrow.Author.Tests.{lt-ltb, le-ltb, eq-eqb, ne_eqb, eqb-true, eqb-false, ltb-false}
 use borrow.Rule.Slice.PartMut.{put_mid}
+use Rattle.std.specs.Prelude.{Some, None, Ok, Err, unwrap_or}
+use Rattle.std.specs.List.{position, position_or_len}
+use Rattle.std.specs.Simd.{first_chunks}
 use Rattle.bits.proofs.Cases.{le_or_lt}
 use Rattle.spelling.specs.declared.Line.{Line}
 use Rattle.units.specs.declared.refusals.Refusal.TheVariants.{Room}
 use Rattle.units.specs.Answers.{memory}
 use Rattle.spelling.specs.Spelling.{spelled}
 use Rattle.lines.specs.declared.answers.Held.{Held}
-use Rattle.lines.specs.declared.answers.Turn.{Turn}
 use Rattle.lines.specs.Turns.{held_with, carry_with, ended, carry_ended, Turned, kept, full, after, turned, line_length, turn_row, moved, unless, turn_answer, turn_carry, turn_out}
+
+-- ---- the rest of a slice
+
+pub tail_is : (k : ℕ) (x : List ℕ) → take (length x - k) (drop k x) ≡ drop k x
+tail_is k x = take_all (length x - k) (drop k x) (omega (arith, length-drop k x))
+
+pub put_tail : (k : ℕ) (x y : List ℕ) → put_mid k (length x - k) x y ≡ take k x ++ y
+put_tail k x y =
+    let none : drop (length x - k) (drop k x) ≡ [] = ap (λ (n : ℕ). drop n (drop k x)) (sym (length-drop k x)) ∙ drop-length (drop k x) in
+    ap (λ (r : List ℕ). take k x ++ (y ++ r)) none ∙ ap (λ (r : List ℕ). take k x ++ r) (append-nil y)
 
 -- ---- the next line
 
@@ -96,36 +108,84 @@ rest_of_line (c ∷ cs) (suc k) h = by (eqb c 10) (rest_of_line cs k) h
     by true next h = absurd (omega arith)
     by false next h = omega (arith, next (omega arith))
 
-module _ (x : List ℕ) (at k : ℕ) where
-  pub goes_past : k ≤ line_length (drop at x) → line_length (drop at x) ≡ k + line_length (drop (at + k) x)
-  goes_past h = rest_of_line (drop at x) k h ∙ ap (λ (l : List ℕ). k + line_length l) (drop-drop k at x)
+pub goes_past : (x : List ℕ) (at k : ℕ) → k ≤ line_length (drop at x) → line_length (drop at x) ≡ k + line_length (drop (at + k) x)
+goes_past x at k h = rest_of_line (drop at x) k h ∙ ap (λ (l : List ℕ). k + line_length l) (drop-drop k at x)
 
-  -- the first k + 1 characters from a place on have a newline where the last of them is one, and elsewhere where the first k have one
-  pub newline_seen : at + k < length x → get_or x (at + k) 0 ≡ 10 → true ≡ ltb (line_length (drop at x)) (k + 1)
-  newline_seen h e =
-      let n = line_length (drop at x) in
-      sym (lt-ltb n (k + 1) (⊎_elim (λ l. omega (arith, goes_past l, ends_here x (at + k) h e)) (λ l. omega arith) (le_or_lt k n)))
+-- the first chunk but q of a list that is cut into such of n
+chunk_is : (n k : ℕ) (x : List ℕ) (q : ℕ) → q < k → get_or (first_chunks n k x) q [] ≡ take n (drop (n * q) x)
+chunk_is n zero x q h = absurd (omega arith)
+chunk_is n (suc k) x zero h =
+    let none : 0 ≡ n * 0 = omega arith in
+    ap (λ (i : ℕ). take n (drop i x)) none
+chunk_is n (suc k) x (suc q) h =
+    let one_more : n + n * q ≡ n * suc q = omega arith in
+    chunk_is n k (drop n x) q (omega arith) ∙ ap (take n) (drop-drop (n * q) n x ∙ ap (λ (i : ℕ). drop i x) one_more)
 
-  pub newline_not_seen : at + k < length x → (get_or x (at + k) 0 ≡ 10 → ⊥)
-      → ltb (line_length (drop at x)) k ≡ ltb (line_length (drop at x)) (k + 1)
-  newline_not_seen h e =
-      let n = line_length (drop at x) in
-      ⊎_elim (λ l. le-ltb n k l ∙ sym (le-ltb n (k + 1) (omega (arith, goes_past l, goes_on x (at + k) h e))))
-      (λ l. lt-ltb n k l ∙ sym (lt-ltb n (k + 1) (omega arith)))
-      (le_or_lt k n)
+-- chunk q of what follows a place
+pub chunk_at : (x : List ℕ) (from at q : ℕ) → at ≡ from + 32 * q → q < length (take (length x - from) (drop from x)) / 32
+    → get_or (first_chunks 32 (length (take (length x - from) (drop from x)) / 32) (take (length x - from) (drop from x))) q [] ≡ take 32 (drop at x)
+chunk_at x from at q e h =
+    chunk_is 32 _ _ q h
+    ∙ ap (λ (y : List ℕ). take 32 (drop (32 * q) y)) (tail_is from x)
+    ∙ ap (take 32) (drop-drop (32 * q) from x ∙ ap (λ (i : ℕ). drop i x) (sym e))
+
+-- a line goes on as far at least as it does where less of it stands
+front_line : (k : ℕ) (x : List ℕ) → line_length (take k x) ≤ line_length x
+unfolding line_length
+front_line zero x = omega arith
+front_line (suc k) [] = omega arith
+front_line (suc k) (c ∷ cs) = by (eqb c 10) (front_line k cs)
+  where
+    by : (b : Bool) → line_length (take k cs) ≤ line_length cs → cond b 0 (suc (line_length (take k cs))) ≤ cond b 0 (suc (line_length cs))
+    by true h = omega arith
+    by false h = omega arith
+
+-- it goes on past a chunk that has no newline
+pub chunk_passed : (x chunk : List ℕ) (at : ℕ) → chunk ≡ take 32 (drop at x) → at + 32 ≤ length x → ltb (line_length chunk) (length chunk) ≡ false
+    → line_length (drop at x) ≡ 32 + line_length (drop (at + 32) x)
+chunk_passed x chunk at is inside none =
+    let long : length chunk ≡ 32 = ap length is ∙ length-take-le 32 (drop at x) (omega (arith, length-drop at x)) in
+    let goes : line_length chunk ≤ line_length (drop at x) = omega (arith, ap line_length is, front_line 32 (drop at x)) in
+    goes_past x at 32 (omega (arith, ltb-false _ _ none))
+
+-- where the first newline stands, or how many there are
+newline_place : (x : List ℕ) → position_or_len (λ (c : ℕ). eqb c 10) x ≡ line_length x
+unfolding line_length
+newline_place [] = refl
+newline_place (c ∷ cs) = by (eqb c 10) (newline_place cs)
+  where
+    by : (b : Bool) → position_or_len (λ (c : ℕ). eqb c 10) cs ≡ line_length cs
+        → cond (not b) (1 + position_or_len (λ (c : ℕ). eqb c 10) cs) 0 ≡ cond b 0 (suc (line_length cs))
+    by true e = refl
+    by false e = omega arith
+
+pub first_newline : (x : List ℕ) → unwrap_or (position (λ (c : ℕ). eqb c 10) x) (length x) ≡ line_length x
+first_newline x = by (ltb (position_or_len (λ (c : ℕ). eqb c 10) x) (length x)) refl
+  where
+    by : (b : Bool) → ltb (position_or_len (λ (c : ℕ). eqb c 10) x) (length x) ≡ b
+        → unwrap_or (cond b (Some (position_or_len (λ (c : ℕ). eqb c 10) x)) None) (length x) ≡ line_length x
+    by true e = newline_place x
+    by false e = omega (arith, newline_place x, line_inside x, ltb-false _ _ e)
+
+-- one character more: the first k + 1 have a newline where the first k have one or the last of them is one
+pub newline_among : (x : List ℕ) (k : ℕ) → k < length x → (ltb (line_length x) k || eqb (get_or x k 0) 10) ≡ ltb (line_length x) (k + 1)
+newline_among x k h = ⊎_elim none some (le_or_lt k n)
+  where
+    n : ℕ
+    n = line_length x
+
+    none : k ≤ line_length x → (ltb (line_length x) k || eqb (get_or x k 0) 10) ≡ ltb (line_length x) (k + 1)
+    none l = by (eqb (get_or x k 0) 10) refl
+      where
+        by : (b : Bool) → eqb (get_or x k 0) 10 ≡ b → (ltb (line_length x) k || b) ≡ ltb (line_length x) (k + 1)
+        by true e = rw (le-ltb (line_length x) k l) (sym (lt-ltb (line_length x) (k + 1) (omega (arith, rest_of_line x k l, ends_here x k h (eqb-true (get_or x k 0) 10 e)))))
+        by false e = rw (le-ltb (line_length x) k l) (sym (le-ltb (line_length x) (k + 1) (omega (arith, rest_of_line x k l, goes_on x k h (eqb-false (get_or x k 0) 10 e)))))
+
+    some : line_length x < k → (ltb (line_length x) k || eqb (get_or x k 0) 10) ≡ ltb (line_length x) (k + 1)
+    some l = rw (lt-ltb (line_length x) k l) (sym (lt-ltb (line_length x) (k + 1) (omega arith)))
 
 pub end_inside : (x : List ℕ) (at end : ℕ) → at ≤ length x → end ≡ at + line_length (drop at x) → end ≤ length x
 end_inside x at end h e = omega (arith, line_inside (drop at x), length-drop at x)
-
--- ---- the rest of a slice
-
-pub tail_is : (k : ℕ) (x : List ℕ) → take (length x - k) (drop k x) ≡ drop k x
-tail_is k x = take_all (length x - k) (drop k x) (omega (arith, length-drop k x))
-
-pub put_tail : (k : ℕ) (x y : List ℕ) → put_mid k (length x - k) x y ≡ take k x ++ y
-put_tail k x y =
-    let none : drop (length x - k) (drop k x) ≡ [] = ap (λ (n : ℕ). drop n (drop k x)) (sym (length-drop k x)) ∙ drop-length (drop k x) in
-    ap (λ (r : List ℕ). take k x ++ (y ++ r)) none ∙ ap (λ (r : List ℕ). take k x ++ r) (append-nil y)
 
 -- ---- a turn on its way
 
@@ -176,7 +236,7 @@ module _ (held : Held) (input carry out : List ℕ) where
   )
 
   pub turn_refused : length carry < 5464
-      → (Turn.Refused Room ≡ turn_answer held input carry out) × (carry ≡ turn_carry held input carry out) × (out ≡ turn_out held input carry out)
+      → (Err Room ≡ turn_answer held input carry out) × (carry ≡ turn_carry held input carry out) × (out ≡ turn_out held input carry out)
   turn_refused h = by_carry true (lt-ltb _ _ h)
 
   pub turn_is : 5464 ≤ length carry → (t : Turned) → turned held carry [] (length out) input ≡ t
@@ -210,7 +270,7 @@ module _
 
     -- the input ends in the middle of a line
     pub ends : (end : ℕ) → end ≡ taken + line_length (drop taken input) → end ≡ length input
-        → (Turn.Moved (held_with held (drop taken input)) end written ≡ turn_answer held₀ input carry₀ out₀)
+        → (Ok (record { held = held_with held (drop taken input); taken = end; written = written }) ≡ turn_answer held₀ input carry₀ out₀)
         × (carry_with held carry (drop taken input) ≡ turn_carry held₀ input carry₀ out₀)
         × (out ≡ turn_out held₀ input carry₀ out₀)
     ends end e l =
@@ -219,7 +279,7 @@ module _
         let whole : line_length x ≡ length x = omega (arith, g.place) in
         let all : taken + length x ≡ end = omega (arith, g.place) in
         let is = turn_is held₀ input carry₀ out₀ h _ (g.same ∙ ap (after taken (take written out)) (no_newline held carry (length out₀ - written) x [] whole)) in (
-          ap₂ (λ (k n : ℕ). Turn.Moved (held_with held x) k n) (sym all) (sym said_long) ∙ is.0,
+          ap₂ (λ (k n : ℕ). Ok (record { held = held_with held x; taken = k; written = n })) (sym all) (sym said_long) ∙ is.0,
           is.1,
           sym as_written ∙ is.2,
         )
@@ -265,12 +325,12 @@ module _
 
         -- its answer has no room
         pub stops : length (drop written out) < length (spelled answer)
-            → (Turn.Moved held taken written ≡ turn_answer held₀ input carry₀ out₀)
+            → (Ok (record { held = held; taken = taken; written = written }) ≡ turn_answer held₀ input carry₀ out₀)
             × (carry_ended held carry (take (end - taken) (drop taken input)) ≡ turn_carry held₀ input carry₀ out₀)
             × (out ≡ turn_out held₀ input carry₀ out₀)
         stops few =
             let is = turn_is held₀ input carry₀ out₀ h _ (next ∙ ap (after taken (take written out)) (chosen true (lt-ltb _ _ few))) in (
-              ap₂ (λ (k n : ℕ). Turn.Moved held k n) (sym (add-zero taken)) (sym said_long) ∙ is.0,
+              ap₂ (λ (k n : ℕ). Ok (record { held = held; taken = k; written = n })) (sym (add-zero taken)) (sym said_long) ∙ is.0,
               is.1,
               sym as_written ∙ is.2,
             )

@@ -1,6 +1,6 @@
 -- What the tally says of a stream: its lines, each with its answer.
 -- Assumes nothing.
-use Rattle.std.specs.Prelude.{◌≡◌, ℕ, ◌≤◌, cond, List, [], ◌∷◌, ◌++◌, length, take, eqb}
+use Rattle.std.specs.Prelude.{◌≡◌, ℕ, ◌≤◌, cond, List, [], ◌∷◌, ◌++◌, length, take, Ok, eqb}
 use Rattle.line.specs.Line.{line_answer}
 use Rattle.spelling.specs.Spelling.{spelled}
 use Rattle.lines.specs.declared.answers.Held.{Held}
@@ -28,6 +28,6 @@ tally s = said (cut [] s)
 -- input is taken, and how much is written at the front of the output
 pub data Handed : Held → List ℕ → List ℕ → List ℕ → Type 0 where
   start : (carry : List ℕ) → 5464 ≤ length carry → Handed (Held.Characters 0) carry [] []
-  turn : {held next : Held} {carry stream answers : List ℕ} {taken written : ℕ} → Handed held carry stream answers → (input out : List ℕ)
-      → turn_answer held input carry out ≡ Turn.Moved next taken written
-      → Handed next (turn_carry held input carry out) (stream ++ take taken input) (answers ++ take written (turn_out held input carry out))
+  turn : {held : Held} {carry stream answers : List ℕ} {t : Turn} → Handed held carry stream answers → (input out : List ℕ)
+      → turn_answer held input carry out ≡ Ok t
+      → Handed t.held (turn_carry held input carry out) (stream ++ take t.taken input) (answers ++ take t.written (turn_out held input carry out))

@@ -1,8 +1,8 @@
 -- A stream of lines in turns: the input at hand, cut anywhere; the characters of a line that was cut are held in a carry buffer.
 -- Assumes nothing.
-use Rattle.std.specs.Prelude.{ℕ, zero, suc, ◌+◌, ◌-◌, cond, ◌||◌, List, [], ◌∷◌, ◌++◌, length, take, drop, eqb, leb, ltb}
+use Rattle.std.specs.Prelude.{ℕ, zero, suc, ◌+◌, ◌-◌, cond, ◌||◌, List, [], ◌∷◌, ◌++◌, length, take, drop, Result, Ok, Err, eqb, leb, ltb}
+use Rattle.units.specs.declared.refusals.Refusal.{Refusal}
 use Rattle.units.specs.declared.refusals.Refusal.TheVariants.{TextLen, Room}
-use Rattle.units.specs.declared.refusals.Written.{Written}
 use Rattle.units.specs.Answers.{answer, memory}
 use Rattle.spelling.specs.declared.Line.{Line}
 use Rattle.line.specs.Line.{line_answer}
@@ -73,9 +73,9 @@ unfoldable pub turn_row : List ℕ → ℕ
 turn_row carry = cond (ltb (length carry) 5464) 11 0
 
 -- what a turn answers, and what the carry buffer and the output then hold
-abbrev pub moved : ℕ → Turned → Turn
-moved zero t = Turn.Moved t.held t.taken (length t.said)
-moved (suc row) t = Turn.Refused Room
+abbrev pub moved : ℕ → Turned → Result Turn Refusal
+moved zero t = Ok (record { held = t.held; taken = t.taken; written = length t.said })
+moved (suc row) t = Err Room
 
 -- new memory, or the lent one where a row refuses
 abbrev pub unless : ℕ → List ℕ → List ℕ → List ℕ
@@ -83,7 +83,7 @@ unless zero lent new = new
 unless (suc row) lent new = lent
 
 -- what a turn answers
-unfoldable pub turn_answer : Held → List ℕ → List ℕ → List ℕ → Turn
+unfoldable pub turn_answer : Held → List ℕ → List ℕ → List ℕ → Result Turn Refusal
 turn_answer held input carry out = moved (turn_row carry) (turned held carry [] (length out) input)
 
 -- what the carry buffer then holds
@@ -112,7 +112,7 @@ unfoldable pub last_row : Held → List ℕ → List ℕ → ℕ
 last_row held carry out = cond (ltb (length carry) 5464 || ltb (length out) (length (last_said held carry))) 11 0
 
 -- what the end of the stream answers
-unfoldable pub last_answer : Held → List ℕ → List ℕ → Written
+unfoldable pub last_answer : Held → List ℕ → List ℕ → Result ℕ Refusal
 last_answer held carry out = answer (last_row held carry out) (length (last_said held carry))
 
 -- what the output then holds

@@ -1,5 +1,4 @@
 // What is handed on from turn to turn over a stream of lines.
-use units::Refusal;
 
 // What is held of a line that was cut.
 #[derive(Clone, Copy)]
@@ -10,14 +9,10 @@ pub enum Held {
     TooLong,
 }
 
-// What a turn did.
+// What a turn did: what is held now, how much of the input was taken, and how much of the output was written.
 #[derive(Clone, Copy)]
-pub enum Turn {
-    // What is held now, how much of the input was taken, and how much of the output was written.
-    Moved {
-        held: Held,
-        taken: usize,
-        written: usize,
-    },
-    Refused(Refusal),
+pub struct Turn {
+    pub held: Held,
+    pub taken: usize,
+    pub written: usize,
 }

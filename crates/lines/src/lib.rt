@@ -10,15 +10,15 @@ ghost use Rattle.lines.specs.Turns.{turn_answer, turn_carry, turn_out, last_answ
 
 pub use answers::{Held, Turn};
 use line::Line;
-use units::{MOST_TEXT, MOST_TEXT_BYTES, Refusal, Written};
+use units::{MOST_TEXT, MOST_TEXT_BYTES, Refusal};
 
 // One turn: the answers of the lines that end in the input, in order, until the next answer has no room. A stream starts
 // with no characters held.
-pub fn turn(held: Held, input: &[u8], carry: &mut [u8], out: &mut [u8]) -> Turn
+pub fn turn(held: Held, input: &[u8], carry: &mut [u8], out: &mut [u8]) -> Result<Turn, Refusal>
     ensures { (result ≡ turn_answer held input.now carry.old out.old) × (carry.new ≡ turn_carry held input.now carry.old out.old) × (out.new ≡ turn_out held input.now carry.old out.old) }
 {
     if carry.len() < MOST_TEXT {
-        return Turn::Refused(Refusal::Room);
+        return Err(Refusal::Room);
     }
     let mut section = [0u8; MOST_TEXT_BYTES];
     let mut held = held;
@@ -28,23 +28,23 @@ pub fn turn(held: Held, input: &[u8], carry: &mut [u8], out: &mut [u8]) -> Turn
         let end = line_end(input, taken);
         if end == input.len() {
             let held = carry::keep(held, &input[taken..], carry);
-            return Turn::Moved {
+            return Ok(Turn {
                 held,
                 taken: end,
                 written,
-            };
+            });
         }
         let answer = carry::ended(held, &input[taken..end], carry, &mut section);
-        let Written::Count(n) = line::spell(answer, &mut out[written..]) else {
-            return Turn::Moved {
+        let Ok(n) = line::spell(answer, &mut out[written..]) else {
+            return Ok(Turn {
                 held,
                 taken,
                 written,
-            };
+            });
         };
         held = Held::Characters(0);
         taken = end + 1;
-        written = written + n;
+        written += n;
     }
 }
 
@@ -54,47 +54,43 @@ fn line_end(input: &[u8], from: usize) -> usize
     ensures { result ≡ from + line_length (drop from input.now) }
 {
     let mut at = from;
-    while 32 <= input.len() - at {
-        if has_newline(input, at) {
+    let (chunks, _) = input[from..].as_chunks::<32>();
+    for chunk in chunks {
+        if has_newline(chunk) {
             break;
         }
         at += 32;
     }
-    while at < input.len() {
-        if input[at] == b'\n' {
-            return at;
-        }
-        at += 1;
-    }
-    at
+    let rest = &input[at..];
+    at + rest
+        .iter()
+        .position(|character| *character == b'\n')
+        .unwrap_or(rest.len())
 }
 
-// Whether one of the 32 characters from a place on is a newline. All of them are looked at, since a loop without an early end
-// becomes vector code.
-fn has_newline(input: &[u8], at: usize) -> bool
-    requires { at + 32 ≤ length input.now }
-    ensures { result ≡ ltb (line_length (drop at input.now)) 32 }
+// Whether one of the characters is a newline. All of them are looked at, since a loop without an early end becomes vector
+// code.
+fn has_newline(characters: &[u8]) -> bool
+    ensures { result ≡ ltb (line_length characters.now) (length characters.now) }
 {
     let mut found = false;
-    for k in 0..32 {
-        if input[at + k] == b'\n' {
-            found = true;
-        }
+    for character in characters {
+        found |= *character == b'\n';
     }
     found
 }
 
 // The end of the stream: the answer of the line that is held, if one is.
-pub fn last_line(held: Held, carry: &[u8], out: &mut [u8]) -> Written
+pub fn last_line(held: Held, carry: &[u8], out: &mut [u8]) -> Result<usize, Refusal>
     ensures { (result ≡ last_answer held carry.now out.old) × (out.new ≡ last_out held carry.now out.old) }
 {
     if carry.len() < MOST_TEXT {
-        return Written::Refused(Refusal::Room);
+        return Err(Refusal::Room);
     }
     match held {
         Held::Characters(n) => {
             if n == 0 {
-                return Written::Count(0);
+                return Ok(0);
             }
             if n <= MOST_TEXT {
                 line::spell(line::answer(&carry[..n]), out)
