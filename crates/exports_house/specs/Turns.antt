@@ -1,6 +1,7 @@
 -- What is handed on from turn to turn over a stream of lines, as numbers.
 -- Assumes nothing.
-use Rattle.std.specs.Prelude.{ℕ, cond, List, [], ◌∷◌, length, leb, ltb}
+use Rattle.std.specs.Prelude.{ℕ, cond, List, [], ◌∷◌, length, leb, ltb, Result, Ok, Err}
+use Rattle.units.specs.declared.refusals.Refusal.{Refusal}
 use Rattle.units.specs.Refusals.{number_of}
 use Rattle.wire.specs.Given.{Numbers, refused, these}
 use Rattle.lines.specs.declared.answers.Held.{Held}
@@ -16,9 +17,9 @@ held_number (Held.Characters n) = n
 held_number Held.TooLong = 5465
 
 -- what is held then, how much of the input was taken, and how much of the output was written
-abbrev pub turn_numbers : Turn → Numbers
-turn_numbers (Turn.Moved held taken written) = these (held_number held ∷ taken ∷ written ∷ [])
-turn_numbers (Turn.Refused r) = refused (number_of r)
+abbrev pub turn_numbers : Result Turn Refusal → Numbers
+turn_numbers (Ok turn) = these (held_number turn.held ∷ turn.taken ∷ turn.written ∷ [])
+turn_numbers (Err r) = refused (number_of r)
 
 -- where these three numbers have no room, lent memory stays as it was
 abbrev pub with_room : List ℕ → List ℕ → List ℕ → List ℕ

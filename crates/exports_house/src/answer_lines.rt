@@ -1,4 +1,6 @@
 // The answer line of a text, and those of a stream of texts, turn by turn.
+#![tactic(auto, using(wire::proofs::Given::refusals))]
+
 ghost use Rattle.std.specs.Prelude.{◌≡◌};
 ghost use Rattle.line.specs.Line.{line_answer};
 ghost use Rattle.spelling.specs.Spelling.{spell_answer, spell_into};
@@ -8,7 +10,7 @@ ghost use Rattle.wire.specs.Given.{given, given_into};
 ghost use Rattle.exports_house.specs.Turns.{held_of, held_number, turn_numbers, with_room};
 
 use lines::{Held, Turn};
-use units::{MOST_TEXT, Refusal, Written};
+use units::{MOST_TEXT, Refusal};
 
 // The answer line of a text, its newline among it, written to the front of out.
 #[unsafe(no_mangle)]
@@ -32,7 +34,7 @@ pub extern "C" fn timpanimist_lines(
     ensures { (result ≡ wire (given (turn_numbers (turn_answer (held_of held) input.now carry.old out.old)) turn.old)) × (turn.new ≡ given_into (turn_numbers (turn_answer (held_of held) input.now carry.old out.old)) turn.old) × (carry.new ≡ with_room turn.old carry.old (turn_carry (held_of held) input.now carry.old out.old)) × (out.new ≡ with_room turn.old out.old (turn_out (held_of held) input.now carry.old out.old)) }
 {
     if turn.len() < 3 {
-        return wire::number(Written::Refused(Refusal::Room));
+        return wire::number(Err(Refusal::Room));
     }
     let answer = lines::turn(held_of(held), input, carry, out);
     wire::number(give(answer, turn))
@@ -47,17 +49,12 @@ pub extern "C" fn timpanimist_last_line(held: u64, carry: &[u8], out: &mut [u8])
 }
 
 // A turn as three numbers.
-fn give(answer: Turn, turn: &mut [u64]) -> Written
+fn give(answer: Result<Turn, Refusal>, turn: &mut [u64]) -> Result<usize, Refusal>
     ensures { (result ≡ given (turn_numbers answer) turn.old) × (turn.new ≡ given_into (turn_numbers answer) turn.old) }
 {
-    match answer {
-        Turn::Moved {
-            held,
-            taken,
-            written,
-        } => wire::give_three(held_number(held), taken as u64, written as u64, turn),
-        Turn::Refused(refusal) => Written::Refused(refusal),
-    }
+    let moved = answer?;
+    let held = held_number(moved.held);
+    wire::give(&[held, moved.taken as u64, moved.written as u64], turn)
 }
 
 // What is held, as a number and back.

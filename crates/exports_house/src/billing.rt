@@ -1,4 +1,6 @@
 // The break that a section opens, and the label that it is billed under.
+#![tactic(auto, using(wire::proofs::Given::refusals))]
+
 ghost use Rattle.std.specs.Prelude.{◌≡◌, length};
 ghost use Rattle.breaks.specs.Breaks.{break_answer};
 ghost use Rattle.labels.specs.Labels.{bill_label};
@@ -6,8 +8,9 @@ ghost use Rattle.wire.specs.Wire.{wire};
 ghost use Rattle.wire.specs.Given.{given, given_into};
 ghost use Rattle.exports_house.specs.Billing.{break_answer_numbers, label_numbers};
 
-use house::{Break, Label};
-use units::Written;
+use descriptor_reading::Part;
+use house::Break;
+use units::Refusal;
 
 // Whether the section opens a break, and how long it lasts.
 #[unsafe(no_mangle)]
@@ -29,25 +32,24 @@ pub extern "C" fn timpanimist_bill_label(section: &[u8], house: &[u8], out: &mut
 }
 
 // Whether a cue opens a break, and how long it lasts, as numbers written to the front of out.
-fn break_answer(answer: Break, out: &mut [u64]) -> Written
+fn break_answer(answer: Result<Break, Refusal>, out: &mut [u64]) -> Result<usize, Refusal>
     ensures { (result ≡ given (break_answer_numbers answer) out.old) × (out.new ≡ given_into (break_answer_numbers answer) out.old) }
 {
-    match answer {
-        Break::None => wire::give_one(0, out),
-        Break::Measured(ticks) => wire::give_two(1, ticks.0, out),
-        Break::Unmeasured => wire::give_one(2, out),
-        Break::Unread => wire::give_one(3, out),
-        Break::Refused(refusal) => Written::Refused(refusal),
+    match answer? {
+        Break::None => wire::give(&[0], out),
+        Break::Measured(ticks) => wire::give(&[1, ticks.0], out),
+        Break::Unmeasured => wire::give(&[2], out),
+        Break::Unread => wire::give(&[3], out),
     }
 }
 
 // In which slice the bill label lies, the section or the house's name of so many bytes, where in it, and how long it is, in the same
 // way.
-fn label(answer: Label, house: usize, out: &mut [u64]) -> Written
+fn label(answer: Option<Part>, house: usize, out: &mut [u64]) -> Result<usize, Refusal>
     ensures { (result ≡ given (label_numbers house answer) out.old) × (out.new ≡ given_into (label_numbers house answer) out.old) }
 {
     match answer {
-        Label::Upid(at, length) => wire::give_three(0, at as u64, length as u64, out),
-        Label::House => wire::give_three(1, 0, house as u64, out),
+        Some(part) => wire::give(&[0, part.at as u64, part.length as u64], out),
+        None => wire::give(&[1, 0, house as u64], out),
     }
 }

@@ -1,4 +1,6 @@
 // When a splice takes place, and the two DVB-DASH answers: the first check, and how long the event lasts.
+#![tactic(auto, using(wire::proofs::Given::refusals))]
+
 ghost use Rattle.std.specs.Prelude.{◌≡◌};
 ghost use Rattle.breaks.specs.Dash.{dash_duration};
 ghost use Rattle.times.specs.Times.{effective_time, dvb};
@@ -6,9 +8,7 @@ ghost use Rattle.wire.specs.Wire.{wire};
 ghost use Rattle.wire.specs.Given.{given, given_into};
 ghost use Rattle.exports_house.specs.Timing.{effective_time_numbers, dvb_numbers, dash_duration_numbers};
 
-use breaks::DashDuration;
-use times::{Dvb, EffectiveTime};
-use units::Written;
+use units::{Refusal, Ticks};
 
 // When the splice takes place on the stream's own clock.
 #[unsafe(no_mangle)]
@@ -38,34 +38,31 @@ pub extern "C" fn timpanimist_dash_duration(section: &[u8], out: &mut [u64]) -> 
 }
 
 // An effective time as numbers, written to the front of out.
-fn effective_time(answer: EffectiveTime, out: &mut [u64]) -> Written
+fn effective_time(answer: Result<Option<Ticks>, Refusal>, out: &mut [u64]) -> Result<usize, Refusal>
     ensures { (result ≡ given (effective_time_numbers answer) out.old) × (out.new ≡ given_into (effective_time_numbers answer) out.old) }
 {
-    match answer {
-        EffectiveTime::None => wire::give_one(0, out),
-        EffectiveTime::At(ticks) => wire::give_two(1, ticks.0, out),
-        EffectiveTime::Refused(refusal) => Written::Refused(refusal),
+    let time = answer?;
+    match time {
+        None => wire::give(&[0], out),
+        Some(time) => wire::give(&[1, time.0], out),
     }
 }
 
 // The first DVB-DASH check, in the same way.
-fn dvb(answer: Dvb, out: &mut [u64]) -> Written
+fn dvb(answer: Result<bool, Refusal>, out: &mut [u64]) -> Result<usize, Refusal>
     ensures { (result ≡ given (dvb_numbers answer) out.old) × (out.new ≡ given_into (dvb_numbers answer) out.old) }
 {
-    match answer {
-        Dvb::No => wire::give_one(0, out),
-        Dvb::Yes => wire::give_one(1, out),
-        Dvb::Refused(refusal) => Written::Refused(refusal),
-    }
+    let passes = answer?;
+    wire::give(&[wire::flag(passes)], out)
 }
 
 // How long the DASH event lasts, in the same way.
-fn dash_duration(answer: DashDuration, out: &mut [u64]) -> Written
+fn dash_duration(answer: Result<Option<Ticks>, Refusal>, out: &mut [u64]) -> Result<usize, Refusal>
     ensures { (result ≡ given (dash_duration_numbers answer) out.old) × (out.new ≡ given_into (dash_duration_numbers answer) out.old) }
 {
-    match answer {
-        DashDuration::None => wire::give_one(0, out),
-        DashDuration::Measured(ticks) => wire::give_two(1, ticks.0, out),
-        DashDuration::Refused(refusal) => Written::Refused(refusal),
+    let duration = answer?;
+    match duration {
+        None => wire::give(&[0], out),
+        Some(duration) => wire::give(&[1, duration.0], out),
     }
 }
