@@ -1,6 +1,6 @@
 -- What a turn writes to the front of the output is answer lines, whole ones, and so is the last line.
 -- Assumes nothing.
-use mathlib.Core.Path.{◌≡◌, sym, subst}
+use mathlib.Core.Path.{◌≡◌, sym, ap, subst}
 use mathlib.Core.Bool.{Bool, true, false, cond}
 use mathlib.Core.List.{List, [], ◌∷◌, ◌++◌, append-nil}
 use Prim.Native.Nat.{ℕ, zero, suc, ◌+◌, ◌-◌}
@@ -9,7 +9,7 @@ use lib.ListN.{length, take, drop}
 use lib.Seq.{take_at}
 use lib.Dec.{eqb, ltb}
 use Rattle.units.specs.declared.refusals.Refusal.TheVariants.{TextLen}
-use Rattle.units.specs.declared.refusals.Written.TheVariants.{Count}
+use Rattle.std.specs.Prelude.{Ok}
 use Rattle.units.specs.Answers.{answer, memory}
 use Rattle.spelling.specs.declared.Line.{Line}
 use Rattle.spelling.specs.Spelling.{spelled}
@@ -48,25 +48,25 @@ last_answers (Held.Characters (suc n)) carry = one_answer (ended (Held.Character
 last_answers Held.TooLong carry = one_answer (Line.Refused TextLen)
 
 -- what a turn says that it wrote
-pub turn_writes : (held : Held) (input carry out : List ℕ) (next : Held) (taken written : ℕ) → turn_answer held input carry out ≡ Turn.Moved next taken written
-    → Answers (take written (turn_out held input carry out))
+pub turn_writes : (held : Held) (input carry out : List ℕ) (t : Turn) → turn_answer held input carry out ≡ Ok t
+    → Answers (take t.written (turn_out held input carry out))
 unfolding turn_answer turn_out
-turn_writes held input carry out next taken written e =
+turn_writes held input carry out t e =
     by (turn_row carry) (turned held carry [] (length out) input) e (turned_answers held carry [] (length out) input)
   where
-    by : (row : ℕ) (t : Turned) → moved row t ≡ Turn.Moved next taken written → Answers t.said → Answers (take written (memory row t.said out))
-    by zero t e a =
-        let long : length t.said ≡ written = cc in
-        subst Answers (sym (take_at t.said (drop (length t.said) out) written long)) a
-    by (suc row) t e a = absurd (let z : ◌≡◌ {A = ℕ} 0 1 = cc in omega arith)
+    by : (row : ℕ) (x : Turned) → moved row x ≡ Ok t → Answers x.said → Answers (take t.written (memory row x.said out))
+    by zero x e a =
+        let same : record { held = x.held; taken = x.taken; written = length x.said } ≡ t = cc in
+        subst Answers (sym (take_at x.said (drop (length x.said) out) t.written (ap (λ (y : Turn). y.written) same))) a
+    by (suc row) x e a = absurd (let z : ◌≡◌ {A = ℕ} 0 1 = cc in omega arith)
 
 -- and the last line: all of its answer
-pub last_writes : (held : Held) (carry out : List ℕ) (n : ℕ) → last_answer held carry out ≡ Count n
+pub last_writes : (held : Held) (carry out : List ℕ) (n : ℕ) → last_answer held carry out ≡ Ok n
     → (n ≡ length (last_said held carry)) × Answers (take n (last_out held carry out))
 unfolding last_answer last_out
 last_writes held carry out n e = by (last_row held carry out) e
   where
-    by : (row : ℕ) → answer row (length (last_said held carry)) ≡ Count n
+    by : (row : ℕ) → answer row (length (last_said held carry)) ≡ Ok n
         → (n ≡ length (last_said held carry)) × Answers (take n (memory row (last_said held carry) out))
     by zero e =
         let long : length (last_said held carry) ≡ n = cc in

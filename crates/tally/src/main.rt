@@ -10,33 +10,18 @@ use lines::{Held, Turn};
 use std::env::{Env, FillError};
 use std::io;
 use std::io::Read;
-use units::{MOST_TEXT, Written};
+use units::MOST_TEXT;
 
-// What came of a write: so many bytes were written, all that there were; or it failed, and that was said.
+// Reading or writing failed, and that was said.
 #[derive(Clone, Copy)]
-enum Said {
-    All(usize),
-    Failed,
-}
-
-// What came of a turn and the write of its answers: as `Turn`, or the write failed.
-#[derive(Clone, Copy)]
-enum Step {
-    Moved {
-        held: Held,
-        taken: usize,
-        written: usize,
-    },
-    Failed,
-}
+struct Failed;
 
 // How it goes on: with what is held of a line that was cut. Or not at all: the input is at its end, and so many bytes were
-// written of its last line; or reading or writing failed.
+// written of its last line.
 #[derive(Clone, Copy)]
 enum Next {
     Holding(Held),
     Ended(usize),
-    Failed,
 }
 
 fn main(rt: HostRuntime) {
@@ -52,17 +37,10 @@ fn main(rt: HostRuntime) {
     // A proved loop has to end, and nothing says that the input does: no run uses these turns up.
     for _ in 0..u64::MAX {
         let got = rt.stdin().read(&mut input);
-        match came(&rt, got, held, &input, &mut carry, &mut out) {
-            Next::Holding(next) => {
-                held = next;
-            }
-            Next::Ended(_) => {
-                return;
-            }
-            Next::Failed => {
-                return;
-            }
-        }
+        let Ok(Next::Holding(next)) = came(&rt, got, held, &input, &mut carry, &mut out) else {
+            return;
+        };
+        held = next;
     }
 }
 
@@ -80,7 +58,7 @@ fn came(
     input: &[u8],
     carry: &mut [u8],
     out: &mut [u8],
-) -> Next
+) -> Result<Next, Failed>
     requires { (5464 ≤ length carry.old) × (23 ≤ length out.old) }
     ensures { Came got held input.now carry.old carry.new out.old out.new result }
 {
@@ -88,14 +66,14 @@ fn came(
         Ok(n) => n,
         Err(e) => {
             let _ = eprintln!(rt; "tally: standard input: {e}");
-            return Next::Failed;
+            return Err(Failed);
         }
     };
     if n == 0 {
-        return last(rt, held, carry, out);
+        return Ok(Next::Ended(last(rt, held, carry, out)?));
     }
     let n = n.min(input.len());
-    all(rt, held, &input[..n], carry, out)
+    Ok(Next::Holding(all(rt, held, &input[..n], carry, out)?))
 }
 
 // Turn after turn, until the whole input is taken. Each turn's answers are written before the next.
@@ -105,28 +83,18 @@ fn all(
     input: &[u8],
     carry: &mut [u8],
     out: &mut [u8],
-) -> Next
+) -> Result<Held, Failed>
     requires { (5464 ≤ length carry.old) × (23 ≤ length out.old) }
     ensures { Took held input.now carry.old carry.new result }
 {
     let mut held = held;
     let mut at = 0;
     while at < input.len() {
-        match one(rt, held, &input[at..], carry, out) {
-            Step::Moved {
-                held: next,
-                taken,
-                written: _,
-            } => {
-                held = next;
-                at = at + taken;
-            }
-            Step::Failed => {
-                return Next::Failed;
-            }
-        }
+        let turn = one(rt, held, &input[at..], carry, out)?;
+        held = turn.held;
+        at += turn.taken;
     }
-    Next::Holding(held)
+    Ok(held)
 }
 
 // One turn, and its answers written.
@@ -136,47 +104,35 @@ fn one(
     input: &[u8],
     carry: &mut [u8],
     out: &mut [u8],
-) -> Step
+) -> Result<Turn, Failed>
     ensures { Stepped (turn_answer held input.now carry.old out.old) result × (carry.new ≡ turn_carry held input.now carry.old out.old) }
 {
-    match lines::turn(held, input, carry, out) {
-        Turn::Moved {
-            held,
-            taken,
-            written,
-        } => match say(rt, &out[..written]) {
-            Said::All(written) => Step::Moved {
-                held,
-                taken,
-                written,
-            },
-            Said::Failed => Step::Failed,
-        },
-        Turn::Refused(_) => Step::Failed,
-    }
+    let turn = lines::turn(held, input, carry, out).map_err(|_| Failed)?;
+    let written = say(rt, &out[..turn.written])?;
+    Ok(Turn { written, ..turn })
 }
 
 // The line that the end of the input ends.
-fn last(rt: &(impl Print + Eprint), held: Held, carry: &[u8], out: &mut [u8]) -> Next
+fn last(
+    rt: &(impl Print + Eprint),
+    held: Held,
+    carry: &[u8],
+    out: &mut [u8],
+) -> Result<usize, Failed>
     ensures { Ended held carry.now result × (out.new ≡ last_out held carry.now out.old) }
 {
-    match lines::last_line(held, carry, out) {
-        Written::Count(n) => match say(rt, &out[..n]) {
-            Said::All(written) => Next::Ended(written),
-            Said::Failed => Next::Failed,
-        },
-        Written::Refused(_) => Next::Failed,
-    }
+    let n = lines::last_line(held, carry, out).map_err(|_| Failed)?;
+    say(rt, &out[..n])
 }
 
 // Writes answer lines, whole ones and nothing else, or says why it cannot.
-fn say(rt: &(impl Print + Eprint), answers: &[u8]) -> Said
+fn say(rt: &(impl Print + Eprint), answers: &[u8]) -> Result<usize, Failed>
     requires { Answers answers.now }
     ensures { Wrote (length answers.now) result }
 {
     if let Err(e) = rt.write_all(answers) {
         let _ = eprintln!(rt; "tally: standard output: {e}");
-        return Said::Failed;
+        return Err(Failed);
     }
-    Said::All(answers.len())
+    Ok(answers.len())
 }
