@@ -56,5 +56,8 @@ fn scatter(s: &mut [u8], i: usize, n: usize, word: u64)
     requires { (n ≤ 8) × (i + n ≤ length s.old) }
     ensures { Scattered s.old i n word s.new }
 {
-    s[i..i + n].copy_from_slice(&word.to_be_bytes()[8 - n..]);
+    let bytes = word.to_be_bytes();
+    for (k, byte) in bytes[8 - n..].iter().enumerate() {
+        s[i + k] = *byte;
+    }
 }

@@ -14,6 +14,8 @@ pub fn put(bytes: &[u8], memory: &mut [u8], at: usize) -> bool
     if memory.len() - at < bytes.len() {
         return false;
     }
-    memory[at..at + bytes.len()].copy_from_slice(bytes);
+    for (i, byte) in bytes.iter().enumerate() {
+        memory[at + i] = *byte;
+    }
     true
 }

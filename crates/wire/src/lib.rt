@@ -56,6 +56,8 @@ pub fn put(list: &mut [u64], at: usize, numbers: &[u64]) -> usize
     if list.len() - numbers.len() < at {
         return at;
     }
-    list[at..at + numbers.len()].copy_from_slice(numbers);
+    for (i, number) in numbers.iter().enumerate() {
+        list[at + i] = *number;
+    }
     at + numbers.len()
 }

@@ -6,11 +6,11 @@ use Prim.Native.Nat.{ℕ, zero, suc, ◌+◌, ◌-◌, ◌*◌, ◌/◌, ◌%◌
 use native.Mathlib.Nat.{pow-succ'}
 use native.Mathlib.Omega.{arith}
 use lib.Pow.{pow-add}
-use borrow.Rule.Slice.PartMut.{put_mid, same_len_mid}
 use lib.ListN.{get_or}
 use Rattle.std.proofs.Common.{rules}
 use Rattle.std.proofs.lemmas.List.{places}
 use Rattle.std.specs.Int.{byte_at, bytes_high_first}
+use Rattle.bits_writing.proofs.Stored.{none_stored, one_more}
 use Rattle.bits_writing.proofs.scatter.Goals as goal
 
 -- a byte is eight bits
@@ -31,23 +31,29 @@ high zero x k h = absurd (omega arith)
 high (suc n) x zero h = ap (λ (j : ℕ). byte_at j x) (omega arith)
 high (suc n) x (suc k) h = high n x k (omega arith) ∙ ap (λ (j : ℕ). byte_at j x) (omega arith)
 
+pub loop-k-init : goal.loop-k-init
+loop-k-init c = none_stored _ _ _
+
+pub loop-k-preserved : goal.loop-k-preserved
+loop-k-preserved c = one_more _ _ _ _ _ _ (omega (arith, c.loop-k.invariant.long)) refl c.loop-k.invariant
+
+pub shape_of-s : goal.shape_of-s
+shape_of-s c = c.loop-k.invariant.long
+
 pub returns : goal.returns
 returns c =
-    let s = c.args.s.now in
-    let i = c.args.i in
     let n = c.args.n in
+    let stored = c.loop-k.invariant in
     record {
-      long = same_len_mid i _ s _ c.copy_from_slice.ensures.len;
+      long = stored.long;
       here =
           λ k h.
-          let own : get_or (put_mid i (i + n - i) s c.copy_from_slice.new.self) (i + k) 0 ≡ get_or c.copy_from_slice.new.self k 0 = search (rules, places) in
-          let last : get_or c.copy_from_slice.new.self k 0 ≡ get_or c.to_be_bytes.result (8 - n + k) 0 = ap (λ (l : List ℕ). get_or l k 0) c.copy_from_slice.ensures.after ∙ search (rules, places) in
-          own
-          ∙ last
-          ∙ ap (λ (l : List ℕ). get_or l (8 - n + k) 0) c.to_be_bytes.ensures
+          stored.here k (omega arith)
+          ∙ search (rules, places)
+          ∙ ap (λ (l : List ℕ). get_or l (8 - n + k) 0) c.to_be_bytes-bytes.ensures
           ∙ high 8 c.args.word (8 - n + k) (omega arith)
           ∙ ap (λ (j : ℕ). byte_at j c.args.word) (omega arith)
           ∙ shifted (n - 1 - k) c.args.word;
-      before = λ k h. search (rules, places);
-      after = λ k h. search (rules, places);
+      before = λ k h. stored.before k h;
+      after = λ k h. stored.after k (omega arith);
     }

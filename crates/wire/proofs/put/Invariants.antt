@@ -1,0 +1,7 @@
+use mathlib.Core.Path.{◌≡◌}
+use lib.ListN.{length}
+use lib.Seq.{paste}
+use Rattle.wire.proofs.put.Given as goal
+
+abbrev pub invariant-loop-i : goal.invariant-loop-i
+invariant-loop-i l = (length l.list ≡ length l.initial.list) × (l.list ≡ paste l.initial.list l.at l.numbers l.i)
