@@ -1,5 +1,6 @@
 pub mod AllOf
 pub mod Alphabet
+pub mod Arms
 pub mod Chunks
 pub mod Counts
 pub mod Decoded

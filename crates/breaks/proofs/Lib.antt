@@ -1,4 +1,5 @@
 pub mod Left
 pub mod Longest
+pub mod OtherKinds
 pub mod Standing
 pub mod Opened
