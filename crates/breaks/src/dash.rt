@@ -10,6 +10,7 @@ use descriptors::Cursor;
 use units::{Refusal, Ticks};
 
 // How long the DASH event of the section lasts: the longest duration of a time signal's descriptors, if there is one.
+#[tactic(auto, using(opening::proofs::Asked::is_open), unfolding(crate::specs::Dash::dash_duration, opening::specs::First::asked))]
 pub fn dash_duration(section: &[u8]) -> Result<Option<Ticks>, Refusal>
     ensures { result ≡ dash_duration section.now }
 {

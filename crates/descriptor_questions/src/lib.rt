@@ -9,6 +9,7 @@ use descriptor_reading::{AudioComponent, SegmentationComponent};
 use units::Refusal;
 
 // Character m of known descriptor n.
+#[tactic(auto, unfolding(crate::specs::Questions::dtmf_char, opening::specs::First::asked))]
 pub fn dtmf_char(section: &[u8], n: usize, m: usize) -> Result<u8, Refusal>
     ensures { result ≡ says.dtmf_char section.now n m }
 {
@@ -16,6 +17,7 @@ pub fn dtmf_char(section: &[u8], n: usize, m: usize) -> Result<u8, Refusal>
 }
 
 // Component m of known descriptor n, a segmentation descriptor.
+#[tactic(auto, unfolding(crate::specs::Questions::segmentation_component, opening::specs::First::asked))]
 pub fn segmentation_component(
     section: &[u8],
     n: usize,
@@ -27,6 +29,7 @@ pub fn segmentation_component(
 }
 
 // Component m of known descriptor n, an audio descriptor.
+#[tactic(auto, unfolding(crate::specs::Questions::audio_component, opening::specs::First::asked))]
 pub fn audio_component(section: &[u8], n: usize, m: usize) -> Result<AudioComponent, Refusal>
     ensures { result ≡ says.audio_component section.now n m }
 {

@@ -10,6 +10,7 @@ use descriptors::Cursor;
 use units::MOST_SECTION;
 
 // Which part of the section the break is billed under; `None` is the house's own name.
+#[tactic(auto, unfolding(crate::specs::Labels::bill_label, opening::specs::First::asked))]
 pub fn label(section: &[u8]) -> Option<Part>
     ensures { result ≡ bill_label section.now }
 {

@@ -83,6 +83,10 @@ module _ (s : List ℕ) where
   cursor_or_none (Ok c) e = (is_open c (sym e)).cursor
   cursor_or_none (Err r) e = sym (not_open r (sym e))
 
+-- the same, to rewrite by
+pub first_by : (s : List ℕ) → first_cursor s ≡ result_unwrap_or (open_of s) nowhere
+first_by s = sym (cursor_or_none s (open_of s) refl)
+
 -- ---- by what acceptance came upon
 
 -- the judgement of a section as the answer of opening it
@@ -108,6 +112,10 @@ by_judgement s = go (accept_of s) refl
     go : (v : Result (Unit {0}) Refusal) → accept_of s ≡ v → opened_as (judge_of s) ≡ open_of s
     go (Ok u) a = ap opened_as (judged_as s (Ok tt) a) ∙ clear_or_not (eqb (the s "encrypted_packet") 1) refl a
     go (Err r) a = ap opened_as (judged_as s (Err r) a) ∙ sym (refused_open s r a)
+
+-- the same, to rewrite by
+pub open_by : (s : List ℕ) → open_of s ≡ opened_as (judge_of s)
+open_by s = sym (by_judgement s)
 
 -- ---- the answer of a question
 

@@ -13,6 +13,7 @@ use descriptor_reading::{Descriptor, Part};
 use units::Refusal;
 
 // How many known descriptors there are; unknown ones are not counted.
+#[tactic(auto, unfolding(crate::specs::Reading::known_count, opening::specs::First::asked))]
 pub fn known_count(section: &[u8]) -> Result<usize, Refusal>
     ensures { result ≡ says.known_count section.now }
 {
@@ -20,6 +21,7 @@ pub fn known_count(section: &[u8]) -> Result<usize, Refusal>
 }
 
 // Known descriptor n.
+#[tactic(auto, unfolding(crate::specs::Reading::known_descriptor, opening::specs::First::asked))]
 pub fn known_descriptor(section: &[u8], n: usize) -> Result<Descriptor, Refusal>
     ensures { result ≡ says.known_descriptor section.now n }
 {
@@ -27,6 +29,7 @@ pub fn known_descriptor(section: &[u8], n: usize) -> Result<Descriptor, Refusal>
 }
 
 // Where the UPID bytes of known descriptor n lie, or why there are none.
+#[tactic(auto, unfolding(crate::specs::Reading::upid, opening::specs::First::asked))]
 pub fn upid(section: &[u8], n: usize) -> Result<Part, Refusal>
     ensures { result ≡ says.upid section.now n }
 {

@@ -119,3 +119,7 @@ stays (Err r) sealed c = refl
 pub same_verdict : (s : List ℕ) → verdict_in (judge_of s) ≡ accept_of s
 unfolding judge_of
 same_verdict s = stays (accept_of s) (eqb (the s "encrypted_packet") 1) (loop_from s (command_end s))
+
+-- the same, to rewrite by
+pub accepted_by : (s : List ℕ) → accept_of s ≡ verdict_in (judge_of s)
+accepted_by s = sym (same_verdict s)

@@ -14,6 +14,7 @@ use descriptors::Cursor;
 use units::Refusal;
 
 // Whether the bytes are a section: the first row that refuses them otherwise.
+#[tactic(auto, using(crate::proofs::Judged::accepted_by))]
 pub fn accept(s: &[u8]) -> Result<(), Refusal>
     ensures { result ≡ accept_of s.now }
 {

@@ -7,7 +7,7 @@ use Prim.Native.Nat.{ℕ, zero, suc, ◌≤◌, ◌<◌}
 use native.Mathlib.Omega.{arith}
 use lib.ListN.{length, drop}
 use lib.Dec.{ltb}
-use Rattle.std.specs.Prelude.{Ok, Err}
+use Rattle.std.specs.Prelude.{Result, Ok, Err}
 use borrow.Author.Tests.{lt-ltb, le-ltb}
 use Rattle.units.specs.declared.refusals.Refusal.{Refusal}
 use Rattle.units.specs.declared.refusals.Refusal.TheVariants.{Room}
@@ -47,3 +47,27 @@ module _ (s out : List ℕ) where
   pub sheet_written : accept_of s ≡ Ok tt → length (sheet_of s) ≤ length out
       → (Ok (length (sheet_of s)) ≡ to_sheet s out) × (sheet_of s ++ drop (length (sheet_of s)) out ≡ to_sheet_into s out)
   sheet_written a h = to_sheet_lem 0 (room_row a false (le-ltb _ _ h))
+
+-- ---- by the acceptance of the section, to rewrite by
+
+-- the refusal of a section that is none, or else what there is
+abbrev pub if_section : {A : Type 0} → Result (Unit {0}) Refusal → (Refusal → A) → A → A
+if_section (Ok u) refuse there = there
+if_section (Err r) refuse there = refuse r
+
+module _ (s out : List ℕ) where
+  pub sheet_by : to_sheet s out ≡ if_section (accept_of s) Err (to_sheet s out)
+  sheet_by = go (accept_of s) refl
+    where
+      go : (v : Result (Unit {0}) Refusal) → accept_of s ≡ v → to_sheet s out ≡ if_section v Err (to_sheet s out)
+      go (Ok u) e = refl
+      go (Err r) e = sym (not_accepted s out r e).0
+
+  pub into_by : to_sheet_into s out ≡ if_section (accept_of s) (λ r. out) (to_sheet_into s out)
+  into_by = go (accept_of s) refl
+    where
+      go : (v : Result (Unit {0}) Refusal) → accept_of s ≡ v → to_sheet_into s out ≡ if_section v (λ r. out) (to_sheet_into s out)
+      go (Ok u) e = refl
+      go (Err r) e = sym (not_accepted s out r e).1
+
+pub ruleset by_acceptance = (sheet_by, into_by)

@@ -9,6 +9,7 @@ ghost use Rattle.sheet_reading.specs.SheetOf.{to_sheet, to_sheet_into, Laid};
 use units::{MOST_FIELDS, Refusal};
 
 // The numbers of a section's sheet, written to the front of out.
+#[tactic(auto, using(crate::proofs::SheetRows::by_acceptance))]
 pub fn from_section(section: &[u8], out: &mut [u64]) -> Result<usize, Refusal>
     ensures { (result ≡ to_sheet section.now out.old) × (out.new ≡ to_sheet_into section.now out.old) }
 {
