@@ -56,8 +56,8 @@ pub fn put(list: &mut [u64], at: usize, numbers: &[u64]) -> usize
     if list.len() - numbers.len() < at {
         return at;
     }
-    for (i, number) in numbers.iter().enumerate() {
-        list[at + i] = *number;
+    for i in 0..numbers.len() {
+        list[at + i] = numbers[i];
     }
     at + numbers.len()
 }

@@ -18,7 +18,7 @@ returns-then-list-numbers-2 c = left_out _ _ _ (omega arith)
 pub loop-i-init : goal.loop-i-init
 loop-i-init c =
     let a = c.args in
-    (refl, paste-zero a.list.now a.at a.numbers.now)
+    (omega arith, refl, paste-zero a.list.now a.at a.numbers.now)
 
 pub loop-i-preserved : goal.loop-i-preserved
 loop-i-preserved c =
@@ -26,14 +26,15 @@ loop-i-preserved c =
     let a = c.args in
     let one : suc loop.i ≡ loop.i + 1 = omega arith in
     let n : ℕ = get_or a.numbers.now loop.i 0 in (
-      length-set loop.list (a.at + loop.i) n ∙ loop.invariant.0,
-      ap (λ (m : List ℕ). set m (a.at + loop.i) n) loop.invariant.1
+      omega arith,
+      length-set loop.list (a.at + loop.i) n ∙ loop.invariant.1,
+      ap (λ (m : List ℕ). set m (a.at + loop.i) n) loop.invariant.2
           ∙ paste-suc a.list.now a.at a.numbers.now loop.i 0 (omega arith) (omega arith)
           ∙ ap (paste a.list.now a.at a.numbers.now) one,
     )
 
 pub shape_of-list : goal.shape_of-list
-shape_of-list c = c.loop-i.invariant.0
+shape_of-list c = c.loop-i.invariant.1
 
 pub returns : goal.returns
 returns c =
@@ -44,7 +45,7 @@ returns c =
     let rest : List ℕ = drop (a.at + length a.numbers.now) a.list.now in
     let there = put_there a.list.now a.at a.numbers.now room in (
       there.0,
-      loop.invariant.1
+      loop.invariant.2
           ∙ ap (paste a.list.now a.at a.numbers.now) all
           ∙ ap (λ (ns : List ℕ). take a.at a.list.now ++ ns ++ rest) (take-length a.numbers.now)
           ∙ sym (sets-eq a.numbers.now a.list.now a.at room)

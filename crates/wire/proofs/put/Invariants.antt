@@ -1,7 +1,12 @@
 use mathlib.Core.Path.{◌≡◌}
+use Prim.Native.Nat.{◌-◌, ◌≤◌}
 use lib.ListN.{length}
 use lib.Seq.{paste}
 use Rattle.wire.proofs.put.Given as goal
 
 abbrev pub invariant-loop-i : goal.invariant-loop-i
-invariant-loop-i l = (length l.list ≡ length l.initial.list) × (l.list ≡ paste l.initial.list l.at l.numbers l.i)
+invariant-loop-i l =
+    (l.i ≤ length l.numbers) × (length l.list ≡ length l.initial.list) × (l.list ≡ paste l.initial.list l.at l.numbers l.i)
+
+abbrev pub decreases-loop-i : goal.decreases-loop-i
+decreases-loop-i l = length l.numbers - l.i
